@@ -1,0 +1,43 @@
+use borrow.Author.Needs.{needs}
+use Rattle.name.specs.Name.{reservedName}
+use Rattle.name.proofs.Name.is_reserved.Statement.{statement}
+use Rattle.name.proofs.Name.is_reserved.Tie as tie
+use Rattle.name.proofs.Name.is_reserved.Reads as reads
+use Rattle.name.proofs.Name.is_reserved.Lts as lts
+use Rattle.name.proofs.either.Reads as either-reads
+
+-- src/lib.rt:107:42
+either-requires : tie.Need-either-requires
+either-requires c κs = search needs
+
+-- src/lib.rt:107:13
+either-requires-2 : tie.Need-either-requires-2
+either-requires-2 c κs = search needs
+
+-- src/lib.rt:108:42
+either-requires-3 : tie.Need-either-requires-3
+either-requires-3 c κs = search needs
+
+-- src/lib.rt:108:13
+either-requires-4 : tie.Need-either-requires-4
+either-requires-4 c κs = search needs
+
+-- src/lib.rt:106:9
+either-requires-5 : tie.Need-either-requires-5
+either-requires-5 c κs = search needs
+
+-- src/lib.rt:102:5
+returns : tie.Need-returns
+unfolding reservedName
+returns c = cc
+
+pub is-reserved-spec : {M : Type 1} → statement M
+is-reserved-spec =
+    tie.close
+    (tie.spec
+    either-requires
+    either-requires-2
+    either-requires-3
+    either-requires-4
+    either-requires-5
+    returns)

@@ -1,0 +1,66 @@
+use Rattle.tree.proofs.WalkLaws.{file-laws}
+use borrow.Author.Needs.{needs}
+use Rattle.tree.proofs.check.Statement.{statement}
+use Rattle.tree.proofs.check.Tie as tie
+use Rattle.tree.proofs.check.Reads as reads
+use Rattle.tree.proofs.check.Lts as lts
+use Rattle.name.proofs.Name.is_version.Reads as is-version-reads
+use Rattle.name.proofs.Name.kind.Reads as kind-reads
+use Rattle.tree.proofs.is_section.Reads as is-section-reads
+use Rattle.tree.proofs.name_at.Reads as name-at-reads
+use Rattle.tree.proofs.outermost.Reads as outermost-reads
+
+-- src/lib.rt:413:9
+returns : tie.Need-returns
+returns c = search (file-laws, needs)
+
+-- src/lib.rt:416:9
+returns-2 : tie.Need-returns-2
+returns-2 c = search (file-laws, needs)
+
+-- src/lib.rt:418:9
+name-at-requires : tie.Need-name-at-requires
+name-at-requires c κs = search needs
+
+-- src/lib.rt:419:8
+is-version-requires : tie.Need-is-version-requires
+is-version-requires c κs = search needs
+
+-- src/lib.rt:420:9
+returns-3 : tie.Need-returns-3
+returns-3 c = search (file-laws, needs)
+
+-- src/lib.rt:422:19
+kind-requires : tie.Need-kind-requires
+kind-requires c κs = search needs
+
+-- src/lib.rt:422:8
+is-section-requires : tie.Need-is-section-requires
+is-section-requires c κs = search needs
+
+-- src/lib.rt:423:9
+outermost-requires : tie.Need-outermost-requires
+outermost-requires c κs = search needs
+
+-- src/lib.rt:423:9
+returns-4 : tie.Need-returns-4
+returns-4 c = search (file-laws, needs)
+
+-- src/lib.rt:409:1
+returns-5 : tie.Need-returns-5
+returns-5 c = search (file-laws, needs)
+
+pub check-spec : {M : Type 1} → statement M
+check-spec =
+    tie.close
+    (tie.spec
+    returns
+    returns-2
+    name-at-requires
+    is-version-requires
+    returns-3
+    kind-requires
+    is-section-requires
+    outermost-requires
+    returns-4
+    returns-5)

@@ -1,0 +1,80 @@
+use Prim.Native.Nat.{ℕ, _-_}
+use mathlib.Core.Path.{refl}
+use native.Mathlib.Omega.{arith}
+use borrow.Author.Needs.{needs}
+use Rattle.tree.specs.Rules.{propBefore}
+use Rattle.tree.proofs.Laws.{laws, Scans}
+use Rattle.tree.proofs.prop_before.Statement.{statement}
+use Rattle.tree.proofs.prop_before.Tie as tie
+use Rattle.tree.proofs.prop_before.Reads as reads
+use Rattle.tree.proofs.prop_before.Lts as lts
+use Rattle.tree.proofs.prop_at.Reads as prop-at-reads
+use Rattle.tree.proofs.size_at.Reads as size-at-reads
+
+abbrev Inv-loop : tie.InvT-loop
+Inv-loop s from p t q₀ q = Scans s q p (t .code) (propBefore s from p (t .code))
+
+abbrev μ-loop : tie.MeasureT-loop
+μ-loop s from p t q₀ q = p - q
+
+-- src/lib.rt:252:5
+loop-holds : tie.Need-loop-holds Inv-loop μ-loop
+loop-holds c = let a = c .before .args in (a .p - a .from, (omega arith, refl))
+
+-- src/lib.rt:253:12
+prop-at-requires : tie.Need-prop-at-requires Inv-loop μ-loop
+prop-at-requires c κs = search needs
+
+-- src/lib.rt:254:13
+returns : tie.Need-returns Inv-loop μ-loop
+returns c = search (laws, needs)
+
+-- src/lib.rt:256:28
+add-size-at : tie.Need-add-size-at Inv-loop μ-loop
+add-size-at c = search (laws, needs)
+
+-- src/lib.rt:256:13
+size-at-requires : tie.Need-size-at-requires Inv-loop μ-loop
+size-at-requires c κs = search needs
+
+-- src/lib.rt:257:13
+add-q : tie.Need-add-q Inv-loop μ-loop
+add-q c = search (laws, needs)
+
+-- src/lib.rt:257:13
+add-q-2 : tie.Need-add-q-2 Inv-loop μ-loop
+add-q-2 c = search (laws, needs)
+
+-- src/lib.rt:257:13
+add-q-3 : tie.Need-add-q-3 Inv-loop μ-loop
+add-q-3 c = search (laws, needs)
+
+-- src/lib.rt:252:5
+loop-less : tie.Need-loop-less Inv-loop μ-loop
+loop-less c = search (laws, needs)
+
+-- src/lib.rt:252:5
+loop-again : tie.Need-loop-again Inv-loop μ-loop
+loop-again c = search (laws, needs)
+
+-- src/lib.rt:247:1
+returns-2 : tie.Need-returns-2 Inv-loop μ-loop
+returns-2 c = search (laws, needs)
+
+pub prop-before-spec : {M : Type 1} → statement M
+prop-before-spec =
+    tie.close
+    (tie.spec
+    Inv-loop
+    μ-loop
+    loop-holds
+    prop-at-requires
+    returns
+    add-size-at
+    size-at-requires
+    add-q
+    add-q-2
+    add-q-3
+    loop-less
+    loop-again
+    returns-2)

@@ -1,0 +1,149 @@
+-- 01 "Order of checks and numbers": the header at a place, the chunk at a place, the whole file.
+use Prim.Native.Nat.{ℕ, zero, suc, _+_, _-_, _%_, _≤_, _<_}
+use mathlib.Core.Path.{_≡_}
+use mathlib.Core.List.{List}
+use mathlib.Core.Bool.{Bool, true, false, not}
+use lib.Dec.{ltb, eqb}
+use lib.ListN.{length}
+use lib.Seq.{slice}
+use Rattle.name.specs.Name.{pick, wellFormed, versionName, kindOf}
+use Rattle.name.specs.declared.Kind.{Kind}
+use Rattle.tree.specs.declared.Position.{Position}
+use Rattle.tree.specs.declared.Position.the-variants.{Outermost}
+use Rattle.tree.specs.declared.Header.{Header}
+use Rattle.tree.specs.declared.Header.the-variants.{Bad, Leaf, Group}
+use Rattle.tree.specs.declared.Step.{Step}
+use Rattle.tree.specs.declared.Step.the-variants.{Next, Stop}
+use Rattle.tree.specs.declared.Walked.{Walked}
+use Rattle.tree.specs.declared.Walked.the-variants.{Whole, Broken}
+use Rattle.tree.specs.declared.Verdict.{Verdict}
+use Rattle.tree.specs.declared.Verdict.the-variants.{Accepted, Refused}
+use Rattle.tree.specs.Chunks.{Chunks, none, Chunk, aLeaf, aGroup, before, count, word, nextAt}
+use Rattle.tree.specs.Rules.{isGroup, isSection, misplaced, inside, after, groupType, secondProp}
+
+-- What 9 to 12 say of a group of kind k and size z at p; `levels` is how many levels of groups may still be opened.
+unfoldable pub groupHeaderOf : ℕ → List ℕ → ℕ → Kind → ℕ → ℕ → Header
+groupHeaderOf levels s from k z p =
+    pick (eqb levels 0) (Bad 9)
+    (pick (ltb z 4) (Bad 10)
+    (pick (not (groupType k (word s (p + 8)))) (Bad 11)
+    (pick (secondProp k s from p (word s (p + 8))) (Bad 12)
+    (Group k z))))
+
+-- What 7 to 12 say of the chunk of kind k at p, in a parent that ends at e and whose members begin at `from`.
+abbrev pub sizedHeaderOf : ℕ → List ℕ → ℕ → Kind → ℕ → ℕ → Header
+sizedHeaderOf levels s from k p e =
+    pick (ltb (e - p - 8) (word s (p + 4))) (Bad 7)
+    (pick (ltb (e - p - 8 - word s (p + 4)) (word s (p + 4) % 2)) (Bad 8)
+    (pick (isGroup k) (groupHeaderOf levels s from k (word s (p + 4)) p)
+    (Leaf (word s (p + 4)))))
+
+-- The header at p in a parent that ends at e and whose members begin at `from`: the lines of 01's table, in its order.
+unfoldable pub headerOf : ℕ → List ℕ → ℕ → Position → ℕ → ℕ → Header
+headerOf levels s from w p e =
+    pick (ltb (e - p) 8) (Bad 4)
+    (pick (not (wellFormed (word s p))) (Bad 5)
+    (pick (versionName (word s p)) (Bad 3)
+    (pick (misplaced w (word s p)) (Bad 6)
+    (sizedHeaderOf levels s from (kindOf (word s p)) p e))))
+
+-- What reading finds: it is sound, or the number and the place of a refusal.
+pub data Found (A : Type 0) : Type 0 where
+  found : A → Found A
+  refused : ℕ → ℕ → Found A
+
+abbrev pub andThen : {A B : Type 0} → Found A → (A → Found B) → Found B
+andThen (found a) f = f a
+andThen (refused k p) f = refused k p
+
+-- Whole chunks from p to e, each as `chunk` finds it; `fuel` bounds their number.
+unfoldable pub run : (Position → ℕ → ℕ → Found Chunk) → List ℕ → ℕ → Position → ℕ → ℕ → Found Chunks
+run chunk s zero w p e = found none
+run chunk s (suc fuel) w p e =
+    pick (ltb p e)
+    (andThen (chunk w p e) (λ c. andThen (run chunk s fuel (after w (kindOf (word s p))) (nextAt s p) e) (λ F. found (before c F))))
+    (found none)
+
+-- The chunk whose header at p is h, where `members` finds the members of a group.
+abbrev pub byHeader : Header → List ℕ → ℕ → (Kind → ℕ → Found Chunks) → Found Chunk
+byHeader (Bad k) s p members = refused k p
+byHeader (Leaf z) s p members = found (aLeaf (word s p) (slice (p + 8) (p + 8 + z) s) (slice (p + 8 + z) (p + 8 + z + z % 2) s))
+byHeader (Group k z) s p members = andThen (members k z) (λ G. found (aGroup (word s p) (word s (p + 8)) G))
+
+-- The chunk at p, where `levels` more levels of groups may be opened.
+unfoldable pub chunkAt : ℕ → List ℕ → ℕ → Position → ℕ → ℕ → Found Chunk
+chunkAt zero s from w p e = byHeader (headerOf 0 s from w p e) s p (λ k z. refused 9 p)
+chunkAt (suc levels) s from w p e =
+    byHeader (headerOf (suc levels) s from w p e) s p
+    (λ k z. run (chunkAt levels s (p + 12)) s (p + 8 + z - (p + 12)) (inside k) (p + 12) (p + 8 + z))
+
+-- The members of a group, from p to e.
+abbrev pub membersOf : ℕ → List ℕ → ℕ → Position → ℕ → ℕ → Found Chunks
+membersOf levels s from w p e = run (chunkAt levels s from) s (e - p) w p e
+
+-- The file: "First 1 (file longer than 16,777,216 bytes).", then "For the outermost only: fewer than four bytes is 2; a version
+-- name is 3; any other name but FORM, LIST, "CAT " is 2.", then the outermost chunk, whose parent ends with the file.
+unfoldable pub readFile : List ℕ → Found Chunk
+readFile s =
+    pick (ltb 16777216 (length s)) (refused 1 0)
+    (pick (ltb (length s) 4) (refused 2 0)
+    (pick (versionName (word s 0)) (refused 3 0)
+    (pick (isSection (kindOf (word s 0))) (chunkAt 16 s 0 Outermost 0 (length s))
+    (refused 2 0))))
+
+-- "Acceptance returns chunk count, end of the outermost chunk, trailing count." "A refusal returns the number and p".
+abbrev pub verdictOf : List ℕ → Found Chunk → Verdict
+verdictOf s (found c) = Accepted (count (before c none)) (nextAt s 0) (length s - nextAt s 0)
+verdictOf s (refused k p) = Refused k p
+
+abbrev pub checkOf : List ℕ → Verdict
+checkOf s = verdictOf s (readFile s)
+
+-- What the walk over the bytes tells of a chunk at p, after n chunks: where the next one stands, how many chunks there are by then.
+abbrev pub told : List ℕ → Position → ℕ → ℕ → Found Chunk → Step
+told s w p n (found c) = Next (after w (kindOf (word s p))) (n + count (before c none)) (nextAt s p)
+told s w p n (refused k q) = Stop k q
+
+-- The same of all members of a group.
+abbrev pub toldAll : ℕ → Found Chunks → Walked
+toldAll n (found F) = Whole (n + count F)
+toldAll n (refused k q) = Broken k q
+
+-- What is known of a header that is no refusal: the size is its own, the chunk lies inside the parent, and of a group the kind
+-- is its own too, its size has room for a type and a level is left for it.
+pub record LeafFits (s : List ℕ) (p e z : ℕ) : Type 0 where
+  pub size : z ≡ word s (p + 4)
+  pub ends : p + 8 + z + z % 2 ≤ e
+  pub plain : isGroup (kindOf (word s p)) ≡ false
+
+pub record GroupFits (levels : ℕ) (s : List ℕ) (p e : ℕ) (k : Kind) (z : ℕ) : Type 0 where
+  pub size : z ≡ word s (p + 4)
+  pub ends : p + 8 + z + z % 2 ≤ e
+  pub kind : k ≡ kindOf (word s p)
+  pub typed : 4 ≤ z
+  pub level : 0 < levels
+
+abbrev pub Fitting : ℕ → List ℕ → ℕ → ℕ → Header → Type 0
+Fitting levels s p e (Bad k) = Unit
+Fitting levels s p e (Leaf z) = LeafFits s p e z
+Fitting levels s p e (Group k z) = GroupFits levels s p e k z
+
+-- What is known of a group's header by 9 to 12 alone.
+abbrev pub Opened : ℕ → Kind → ℕ → Header → Type 0
+Opened levels k z (Bad n) = Unit
+Opened levels k z (Leaf z') = ⊥
+Opened levels k z (Group k' z') = (k' ≡ k) × (z' ≡ z) × (4 ≤ z) × (0 < levels)
+
+-- A chunk ends after it begins, inside its parent, and there are no more chunks than bytes.
+abbrev pub Ahead : ℕ → ℕ → Step → Type 0
+Ahead p e (Next w n q) = (p < q) × (q ≤ e) × (n ≤ q)
+Ahead p e (Stop k m) = Unit
+
+abbrev pub Counted : ℕ → Walked → Type 0
+Counted e (Whole n) = n ≤ e
+Counted e (Broken k m) = Unit
+
+-- The group of kind k and size z at p, where `levels` more levels may be opened inside it.
+abbrev pub groupOf : ℕ → List ℕ → ℕ → Kind → ℕ → Found Chunk
+groupOf levels s p k z =
+    andThen (membersOf levels s (p + 12) (inside k) (p + 12) (p + 8 + z)) (λ G. found (aGroup (word s p) (word s (p + 8)) G))
