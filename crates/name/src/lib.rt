@@ -1,7 +1,17 @@
 // The four-byte names of EA IFF 85: the reserved ones, and the tests on a name.
 ghost use mathlib.Core.Path.{_≡_};
 ghost use Rattle.name.specs.Name.{
-    both, either, printable, spaceThen, wellFormed, versionName, typeByte, typeBytes, reservedName, typeName, kindOf,
+  both,
+  either,
+  printable,
+  spaceThen,
+  wellFormed,
+  versionName,
+  typeByte,
+  typeBytes,
+  reservedName,
+  typeName,
+  kindOf,
 };
 
 // A name as one number, its first byte the highest. Names are compared exactly, case included.
@@ -46,19 +56,29 @@ fn space_then(b: u32, next: u32) -> bool
 fn type_byte(b: u32) -> bool
     ensures { λ r. ⌜ r ≡ typeByte b ⌝ }
 {
-    either(both(65 <= b, b <= 90), either(both(48 <= b, b <= 57), b == 32))
+    either(
+        both(65 <= b, b <= 90),
+        either(both(48 <= b, b <= 57), b == 32),
+    )
 }
 
 impl Name {
     pub const FORM: Name = Name { code: 0x464F524D };
+
     pub const LIST: Name = Name { code: 0x4C495354 };
+
     pub const CAT: Name = Name { code: 0x43415420 };
+
     pub const PROP: Name = Name { code: 0x50524F50 };
+
     pub const JJJJ: Name = Name { code: 0x4A4A4A4A };
+
     pub const FILLER: Name = Name { code: 0x20202020 };
     // The three bytes that a version name begins with.
     const FOR: Name = Name { code: 0x464F52 };
+
     const LIS: Name = Name { code: 0x4C4953 };
+
     const CATS: Name = Name { code: 0x434154 };
 
     // Printable bytes, and no space before another byte.
@@ -70,7 +90,10 @@ impl Name {
         let c = self.code / 256 % 256;
         let d = self.code % 256;
         both(
-            both(both(printable(a), printable(b)), both(printable(c), printable(d))),
+            both(
+                both(printable(a), printable(b)),
+                both(printable(c), printable(d)),
+            ),
             both(space_then(a, b), both(space_then(b, c), space_then(c, d))),
         )
     }
@@ -82,7 +105,10 @@ impl Name {
         let stem = self.code / 256;
         let digit = self.code % 256;
         both(
-            either(stem == Name::FOR.code, either(stem == Name::LIS.code, stem == Name::CATS.code)),
+            either(
+                stem == Name::FOR.code,
+                either(stem == Name::LIS.code, stem == Name::CATS.code),
+            ),
             both(49 <= digit, digit <= 57),
         )
     }
@@ -95,7 +121,10 @@ impl Name {
         let b = self.code / 65536 % 256;
         let c = self.code / 256 % 256;
         let d = self.code % 256;
-        both(both(type_byte(a), type_byte(b)), both(type_byte(c), type_byte(d)))
+        both(
+            both(type_byte(a), type_byte(b)),
+            both(type_byte(c), type_byte(d)),
+        )
     }
 
     // A group's name, the filler or JJJJ.
@@ -104,8 +133,14 @@ impl Name {
     {
         let n = self.code;
         either(
-            either(n == Name::FORM.code, either(n == Name::LIST.code, n == Name::CAT.code)),
-            either(n == Name::PROP.code, either(n == Name::JJJJ.code, n == Name::FILLER.code)),
+            either(
+                n == Name::FORM.code,
+                either(n == Name::LIST.code, n == Name::CAT.code),
+            ),
+            either(
+                n == Name::PROP.code,
+                either(n == Name::JJJJ.code, n == Name::FILLER.code),
+            ),
         )
     }
 

@@ -7,11 +7,40 @@ ghost use lib.ListN.{length};
 ghost use Rattle.name.specs.Name.{kindOf};
 ghost use Rattle.tree.specs.Chunks.{word, nextAt};
 ghost use Rattle.tree.specs.Rules.{
-    isGroup, isSection, inForm, inProp, inList, inCat, allowed, misplaced, inside, afterInList, after, groupType, propAt, propBefore, secondProp,
+  isGroup,
+  isSection,
+  inForm,
+  inProp,
+  inList,
+  inCat,
+  allowed,
+  misplaced,
+  inside,
+  afterInList,
+  after,
+  groupType,
+  propAt,
+  propBefore,
+  secondProp,
 };
 ghost use Rattle.tree.specs.declared.Position.the-variants.{Outermost};
 ghost use Rattle.tree.specs.Judge.{
-    groupHeaderOf, sizedHeaderOf, headerOf, chunkAt, membersOf, readFile, checkOf, told, toldAll, groupOf, verdictOf, GroupFits, Fitting, Opened, Ahead, Counted,
+  groupHeaderOf,
+  sizedHeaderOf,
+  headerOf,
+  chunkAt,
+  membersOf,
+  readFile,
+  checkOf,
+  told,
+  toldAll,
+  groupOf,
+  verdictOf,
+  GroupFits,
+  Fitting,
+  Opened,
+  Ahead,
+  Counted,
 };
 
 // The answer of the check.
@@ -21,7 +50,10 @@ pub enum Verdict {
         end: usize,
         trailing: usize,
     },
-    Refused { number: usize, place: usize },
+    Refused {
+        number: usize,
+        place: usize,
+    },
 }
 
 // Where a chunk stands: by itself, in a FORM, in a PROP, in a LIST with no FORM, LIST or CAT before it,
@@ -354,7 +386,16 @@ fn member(s: &[u8], from: usize, w: Position, p: usize, e: usize, levels: usize,
 }
 
 // The group at p, of kind k and size z, after n chunks.
-fn enter(s: &[u8], w: Position, k: Kind, z: usize, p: usize, e: usize, levels: usize, n: usize) -> Step
+fn enter(
+    s: &[u8],
+    w: Position,
+    k: Kind,
+    z: usize,
+    p: usize,
+    e: usize,
+    levels: usize,
+    n: usize,
+) -> Step
     requires { ⌜ (GroupFits levels (now s) p e k z) × (e ≤ length (now s)) × (n ≤ p) ⌝ }
     ensures is { λ r. ⌜ r ≡ told (now (s .entry)) w p n (groupOf (levels - 1) (now (s .entry)) p k z) ⌝ }
     ensures ahead { λ r. ⌜ Ahead p e r ⌝ }
@@ -410,17 +451,29 @@ pub fn check(s: &[u8]) -> Verdict
     ensures { λ r. ⌜ r ≡ checkOf (now (s .entry)) ⌝ }
 {
     if 16777216 < s.len() {
-        return Verdict::Refused { number: 1, place: 0 };
+        return Verdict::Refused {
+            number: 1,
+            place: 0,
+        };
     }
     if s.len() < 4 {
-        return Verdict::Refused { number: 2, place: 0 };
+        return Verdict::Refused {
+            number: 2,
+            place: 0,
+        };
     }
     let n = name_at(s, 0);
     if n.is_version() {
-        return Verdict::Refused { number: 3, place: 0 };
+        return Verdict::Refused {
+            number: 3,
+            place: 0,
+        };
     }
     if is_section(n.kind()) {
         return outermost(s);
     }
-    Verdict::Refused { number: 2, place: 0 }
+    Verdict::Refused {
+        number: 2,
+        place: 0,
+    }
 }

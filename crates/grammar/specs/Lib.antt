@@ -1,0 +1,10 @@
+pub mod Grammar
+pub mod Words
+pub mod Read
+pub mod Names
+pub mod Props
+pub mod Headers
+pub mod Complete
+pub mod Sound
+pub mod Files
+pub mod Accept

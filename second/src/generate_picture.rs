@@ -1,0 +1,246 @@
+//! Generated pictures: FORM ILBM alone, and LISTs of pictures with a PROP.
+
+use crate::generate::{filler, local, outer_group};
+use crate::node::Node;
+use crate::random::Random;
+
+/// The fields that a BODY is made by.
+#[derive(Clone, Copy, Debug)]
+pub(crate) struct Plan {
+    width: u16,
+    height: u16,
+    planes: u8,
+    masking: u8,
+    compression: u8,
+}
+
+impl Plan {
+    /// A plan that is mostly sound.
+    pub fn of(random: &mut Random) -> Plan {
+        Plan {
+            width: width(random),
+            height: if random.one_in(60) { 0 } else { random.between(1, 4) as u16 },
+            planes: if random.one_in(30) {
+                random.pick(&[0, 9, 24, 255])
+            } else {
+                random.between(1, 8) as u8
+            },
+            masking: if random.one_in(30) {
+                random.pick(&[4, 255])
+            } else {
+                random.pick(&[0, 0, 1, 1, 2, 3])
+            },
+            compression: if random.one_in(30) { random.pick(&[2, 255]) } else { random.pick(&[0, 1, 1]) },
+        }
+    }
+
+    /// The 20 bytes of BMHD; the other fields are random.
+    fn header(&self, random: &mut Random) -> Vec<u8> {
+        let mut data = random.bytes(20);
+        data[0..2].copy_from_slice(&self.width.to_be_bytes());
+        data[2..4].copy_from_slice(&self.height.to_be_bytes());
+        data[8..11].copy_from_slice(&[self.planes, self.masking, self.compression]);
+        data
+    }
+}
+
+/// A width near a multiple of 8 or 16.
+fn width(random: &mut Random) -> u16 {
+    let near = [0, 1, 1, 2, 3, 7, 8, 9, 15, 16, 17, 23, 24, 25, 31, 32, 33, 47, 48, 49, 63, 64, 65];
+    match random.below(40) {
+        0 => 0,
+        1 => random.between(250, 530) as u16,
+        2 => random.pick(&[2047, 2048, 2049]),
+        3..=10 => random.between(1, 90) as u16,
+        _ => random.pick(&near[1..]),
+    }
+}
+
+/// A FORM ILBM by this plan, with or without its own BMHD.
+pub(crate) fn picture(random: &mut Random, plan: &Plan, own_header: bool) -> Node {
+    let mut members = Vec::new();
+    if own_header && !random.one_in(40) {
+        add_header(random, plan, &mut members);
+    }
+    add_others(random, &mut members);
+    shuffle(random, &mut members);
+    let bodies = random.pick(&[0, 1, 1, 1, 1, 1, 1, 1, 1, 1, 1, 1, 1, 1, 2]);
+    for _ in 0..bodies {
+        let data = body(random, plan);
+        members.push(Node::local(random, *b"BODY", data));
+        add_after(random, &mut members);
+    }
+    Node::group(*b"FORM", *b"ILBM", members)
+}
+
+/// BMHD, at times after another one that then doesn't count.
+fn add_header(random: &mut Random, plan: &Plan, members: &mut Vec<Node>) {
+    if random.one_in(20) {
+        let other = Plan::of(random).header(random);
+        members.push(Node::local(random, *b"BMHD", other));
+    }
+    let mut data = plan.header(random);
+    if random.one_in(40) {
+        data.resize(random.pick(&[0, 19, 21, 28]), 0);
+    }
+    members.push(Node::local(random, *b"BMHD", data));
+}
+
+/// Other properties, unknown chunks, filler and groups.
+fn add_others(random: &mut Random, members: &mut Vec<Node>) {
+    for _ in 0..random.below(6) {
+        let one = match random.below(10) {
+            0 => filler(random),
+            1 => local(random),
+            2 => outer_group(random, 0),
+            _ => property(random),
+        };
+        members.push(one);
+    }
+}
+
+/// What stands after a BODY: at times a property that doesn't count.
+fn add_after(random: &mut Random, members: &mut Vec<Node>) {
+    if random.one_in(3) {
+        let after = if random.one_in(3) { local(random) } else { picture_local(random) };
+        members.push(after);
+    }
+}
+
+/// One of CMAP, GRAB, DEST, SPRT and CAMG, seldom with a wrong size.
+fn property(random: &mut Random) -> Node {
+    let colours = random.between(0, 4) * 3;
+    let (name, size) = random.pick(&[
+        (*b"CMAP", colours),
+        (*b"CMAP", colours),
+        (*b"GRAB", 4),
+        (*b"DEST", 8),
+        (*b"SPRT", 2),
+        (*b"CAMG", 4),
+    ]);
+    let wrong = if random.one_in(25) { random.pick(&[1, 2]) } else { 0 };
+    let data = random.bytes(size + wrong);
+    Node::local(random, name, data)
+}
+
+/// A property, a BMHD or a BODY of no picture in particular.
+pub(crate) fn picture_local(random: &mut Random) -> Node {
+    match random.below(8) {
+        0 => {
+            let data = random.bytes(5);
+            Node::local(random, *b"BODY", data)
+        }
+        1 | 2 => {
+            let data = Plan::of(random).header(random);
+            Node::local(random, *b"BMHD", data)
+        }
+        _ => property(random),
+    }
+}
+
+/// A LIST of pictures under one PROP ILBM.
+pub(crate) fn album(random: &mut Random) -> Node {
+    let plan = Plan::of(random);
+    let mut shared = Vec::new();
+    add_header(random, &plan, &mut shared);
+    add_others(random, &mut shared);
+    shared.retain(|node| node.kind.is_none());
+    shuffle(random, &mut shared);
+    let mut members = vec![Node::group(*b"PROP", *b"ILBM", shared)];
+    for _ in 0..random.between(1, 3) {
+        let mut form = album_member(random, &plan);
+        if random.one_in(6) {
+            form = Node::group(random.pick(&[*b"CAT ", *b"LIST"]), *b"ILBM", vec![form]);
+        }
+        members.push(form);
+        if random.one_in(5) {
+            members.push(filler(random));
+        }
+    }
+    Node::group(*b"LIST", random.pick(&[*b"ILBM", *b"JJJJ"]), members)
+}
+
+fn album_member(random: &mut Random, plan: &Plan) -> Node {
+    match random.below(4) {
+        0 => {
+            let own = Plan::of(random);
+            picture(random, &own, true)
+        }
+        _ => picture(random, plan, false),
+    }
+}
+
+fn shuffle(random: &mut Random, members: &mut [Node]) {
+    for last in (1..members.len()).rev() {
+        members.swap(last, random.below(last + 1));
+    }
+}
+
+/// BODY data by a plan: mostly sound, at times with bytes over, too short or
+/// with a changed byte.
+fn body(random: &mut Random, plan: &Plan) -> Vec<u8> {
+    let length = usize::from(plan.width).div_ceil(16) * 2;
+    let rows = plan.planes.min(8) + u8::from(plan.masking == 1);
+    let mut data = Vec::new();
+    for _ in 0..usize::from(plan.height) * usize::from(rows) {
+        let row = plane_row(random, length);
+        if plan.compression == 1 {
+            encode(random, &row, &mut data);
+        } else {
+            data.extend(row);
+        }
+    }
+    spoil(random, &mut data);
+    data
+}
+
+fn spoil(random: &mut Random, data: &mut Vec<u8>) {
+    match random.below(12) {
+        0 => data.truncate(random.below(data.len() + 1)),
+        1 => data.truncate(data.len().saturating_sub(random.between(1, 3))),
+        2 if !data.is_empty() => {
+            let place = random.below(data.len());
+            data[place] = random.byte();
+        }
+        3 => data.extend([128; 2]),
+        4 => {
+            let count = random.between(1, 5);
+            data.extend(random.bytes(count));
+        }
+        _ => {}
+    }
+}
+
+/// A row with runs of equal bytes of many lengths.
+pub(crate) fn plane_row(random: &mut Random, length: usize) -> Vec<u8> {
+    let mut row = Vec::new();
+    let longest = random.pick(&[1, 2, 4, 200]);
+    while row.len() < length {
+        let byte = if random.one_in(3) { random.byte() } else { random.pick(&[0, 1, 255]) };
+        let count = random.between(1, longest).min(length - row.len());
+        row.resize(row.len() + count, byte);
+    }
+    row
+}
+
+/// One of the many ByteRun1 forms of a row.
+fn encode(random: &mut Random, row: &[u8], out: &mut Vec<u8>) {
+    let mut rest = row;
+    while !rest.is_empty() {
+        if random.one_in(12) {
+            out.push(128);
+        }
+        let equal = rest.iter().take(128).take_while(|byte| **byte == rest[0]).count();
+        let count = if equal > 1 && !random.one_in(4) {
+            let count = if random.one_in(3) { random.between(2, equal) } else { equal };
+            out.extend([(257 - count) as u8, rest[0]]);
+            count
+        } else {
+            let count = random.between(1, rest.len().min(128));
+            out.push((count - 1) as u8);
+            out.extend(&rest[..count]);
+            count
+        };
+        rest = &rest[count..];
+    }
+}

@@ -1,0 +1,156 @@
+//! Generated inputs of the calls that take more than a file.
+
+use crate::generate_picture::plane_row;
+use crate::listing::count_pictures;
+use crate::pack::{packed, LONGEST_ROW};
+use crate::picture::properties;
+use crate::random::Random;
+use crate::rows::scan_line;
+use crate::write::{write_picture, Fields};
+
+/// What is asked of a picture.
+#[derive(Clone, Copy, Debug)]
+pub struct Query {
+    pub picture: usize,
+    pub start: usize,
+    pub row_length: usize,
+    pub frame_length: usize,
+}
+
+/// A row for the packer with the length of the buffer.
+#[derive(Clone, Debug)]
+pub struct RowInput {
+    pub row: Vec<u8>,
+    pub room: usize,
+}
+
+/// All that the picture writer is given.
+#[derive(Clone, Debug)]
+pub struct WriterInput {
+    pub fields: Fields,
+    pub palette: Vec<u8>,
+    pub frame: Vec<u8>,
+    pub room: usize,
+}
+
+/// A query that fits the file mostly, but not always.
+pub fn query(random: &mut Random, file: &[u8]) -> Query {
+    let pictures = count_pictures(file).unwrap_or(0);
+    let beyond = usize::from(random.one_in(20));
+    let picture = random.below(pictures.max(1)) + beyond * pictures;
+    let Ok(told) = properties(file, picture) else {
+        return Query { picture, start: 0, row_length: 1, frame_length: 1 };
+    };
+    let width = usize::from(told.header.width);
+    let frame = width * usize::from(told.header.height);
+    let body = told.body.map_or(0, |range| range.len());
+    Query {
+        picture,
+        start: start_place(random, file, picture, width, body),
+        row_length: nearly(random, width),
+        frame_length: nearly(random, frame),
+    }
+}
+
+/// The start of a line, or any place up to a little beyond the BODY's end.
+fn start_place(random: &mut Random, file: &[u8], picture: usize, width: usize, body: usize) -> usize {
+    if random.one_in(3) {
+        return random.below(body + 4);
+    }
+    let mut start = 0;
+    for _ in 0..random.below(4) {
+        let Ok(line) = scan_line(file, picture, start, width) else {
+            break;
+        };
+        start = line.next;
+    }
+    start
+}
+
+fn nearly(random: &mut Random, number: usize) -> usize {
+    match random.below(20) {
+        0 => number + 1,
+        1 => number.saturating_sub(1),
+        _ => number,
+    }
+}
+
+/// A row for the packer, seldom of a length that is refused.
+pub fn row_input(random: &mut Random) -> RowInput {
+    let length = match random.below(60) {
+        0 => 0,
+        1 => LONGEST_ROW + random.between(1, 3),
+        2 => LONGEST_ROW - random.below(2),
+        3..=20 => random.between(120, 400),
+        _ => random.between(1, 40),
+    };
+    let row = plane_row(random, length);
+    let exact = packed(&row).len();
+    RowInput { row, room: room(random, exact) }
+}
+
+/// A buffer that is exactly long enough, longer, or too short.
+fn room(random: &mut Random, exact: usize) -> usize {
+    match random.below(10) {
+        0 => exact.saturating_sub(1),
+        1 => random.below(exact + 1),
+        2..=4 => exact + random.below(40),
+        _ => exact,
+    }
+}
+
+/// A picture to write; a quarter or so are refused.
+pub fn writer_input(random: &mut Random) -> WriterInput {
+    let mut fields = writer_fields(random);
+    let colours = random.between(0, 40) * 3;
+    let mut palette = random.bytes(colours);
+    let pixels = usize::from(fields.width) * usize::from(fields.height);
+    let mask = ((1u16 << fields.planes) - 1) as u8;
+    let mut frame: Vec<u8> = plane_row(random, pixels).iter().map(|byte| byte & mask).collect();
+    spoil(random, &mut fields, &mut palette, &mut frame);
+    let exact = write_picture(&fields, &palette, &frame, usize::MAX).map_or(100, |file| file.len());
+    WriterInput { fields, palette, frame, room: room(random, exact) }
+}
+
+fn writer_fields(random: &mut Random) -> Fields {
+    Fields {
+        width: random.between(1, 70) as u16,
+        height: random.between(1, 6) as u16,
+        x: random.word() as i16,
+        y: random.word() as i16,
+        planes: random.between(1, 8) as u8,
+        masking: random.pick(&[0, 2, 3]),
+        compression: random.below(2) as u8,
+        transparent_color: random.word() as u16,
+        x_aspect: random.byte(),
+        y_aspect: random.byte(),
+        page_width: random.word() as i16,
+        page_height: random.word() as i16,
+    }
+}
+
+/// Spoils one of the inputs, or none.
+fn spoil(random: &mut Random, fields: &mut Fields, palette: &mut Vec<u8>, frame: &mut Vec<u8>) {
+    match random.below(40) {
+        0 => fields.width = random.pick(&[0, fields.width + 1]),
+        1 => fields.height = random.pick(&[0, fields.height - 1]),
+        2 => fields.planes = random.pick(&[0, 9, 255]),
+        3 => fields.masking = random.pick(&[1, 4, 255]),
+        4 => fields.compression = random.pick(&[2, 255]),
+        5 => palette.push(0),
+        6 => palette.resize(random.pick(&[768, 769, 770, 771]), 7),
+        7 => frame.push(0),
+        8 | 9 => fields.planes = random.between(1, usize::from(fields.planes)) as u8,
+        10 => frame[0] = 255,
+        _ => {}
+    }
+}
+
+/// A picture whose file is longer than a file may be.
+pub fn oversize_writer_input(random: &mut Random) -> WriterInput {
+    let mut fields = writer_fields(random);
+    (fields.width, fields.height) = (4096, 4096);
+    (fields.planes, fields.compression) = (8, 0);
+    let frame = vec![random.byte(); 4096 * 4096];
+    WriterInput { fields, palette: Vec::new(), frame, room: random.pick(&[0, 17_000_000]) }
+}

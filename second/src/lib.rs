@@ -1,0 +1,40 @@
+//! An independent second reader and writer of EA IFF 85 chunk trees and
+//! FORM ILBM pictures, with a generator of files to compare readers on.
+//!
+//! ```
+//! let file = b"FORM\0\0\0\x04ILBM";
+//! let accepted = second::check(file).unwrap();
+//! assert_eq!((accepted.chunks, accepted.end, accepted.trailing), (1, 12, 0));
+//! assert_eq!(second::properties(file, 0).unwrap_err().number, 21);
+//! ```
+
+pub mod additions;
+mod answer;
+mod copy;
+mod damage;
+mod fields;
+pub mod generate;
+mod generate_picture;
+mod inputs;
+mod listing;
+mod name;
+mod node;
+mod pack;
+mod picture;
+pub mod plain;
+pub mod plain_rows;
+pub mod random;
+mod rows;
+mod tree;
+mod write;
+
+pub use answer::{Accepted, Refused};
+pub use copy::clean_copy;
+pub use fields::{Destination, Grab, Header};
+pub use listing::{count_pictures, data, fill_table, listing_text, record, records, Record};
+pub use name::Name;
+pub use pack::{pack, LONGEST_ROW};
+pub use picture::{palette, properties, Origin, Properties, Property};
+pub use rows::{frame, scan_line, Frame, ScanLine};
+pub use tree::{check, Chunk, Kind, Tree, LONGEST_FILE};
+pub use write::{write_picture, Fields};

@@ -1,0 +1,271 @@
+//! Properties over generated files, and how often each number is answered.
+
+use second::generate::{self, Query};
+use second::plain::plain_check;
+use second::plain_rows::{plain_frame, plain_pack};
+use second::random::Random;
+use second::{check, clean_copy, data, fill_table, frame, listing_text, pack, palette, properties};
+use second::{record, records, scan_line, write_picture, Kind, Origin, Refused};
+use std::collections::BTreeMap;
+
+/// A number from the environment, or the usual one.
+fn setting(name: &str, usual: u64) -> u64 {
+    std::env::var(name).map_or(usual, |word| word.parse().expect("a number"))
+}
+
+fn seed() -> u64 {
+    setting("SEED", 1985)
+}
+
+fn files() -> usize {
+    setting("FILES", 20_000) as usize
+}
+
+/// How often each number was answered; 0 stands for success.
+#[derive(Default)]
+struct Tally(BTreeMap<u32, usize>);
+
+impl Tally {
+    fn add<T>(&mut self, answer: &Result<T, Refused>) {
+        let number = answer.as_ref().err().map_or(0, |refused| refused.number);
+        *self.0.entry(number).or_default() += 1;
+    }
+
+    fn needs(&self, numbers: impl IntoIterator<Item = u32>) {
+        println!("seed {}: {:?}", seed(), self.0);
+        for number in numbers {
+            assert!(self.0.contains_key(&number), "{number} never answered, seed {}", seed());
+        }
+    }
+}
+
+/// Calls `each` with every generated file and the numbers that follow it.
+fn for_files(mut each: impl FnMut(&[u8], &mut Random)) {
+    let mut random = Random::new(seed());
+    for _ in 0..files() {
+        let file = generate::file(&mut random);
+        each(&file, &mut random.clone());
+    }
+}
+
+#[test]
+fn structure_numbers_and_plain_check() {
+    let mut tally = Tally::default();
+    let mut long = 0;
+    for_files(|file, _| {
+        let answer = check(file);
+        assert_eq!(plain_check(file), answer);
+        tally.add(&answer);
+        long += usize::from(file.len() >= 4096);
+    });
+    tally.needs(0..=12);
+    assert!(tally.0[&0] > files() / 5 && long < files() / 10, "{long} long files");
+}
+
+#[test]
+fn refusals_have_a_place_at_a_header() {
+    for_files(|file, _| {
+        if let Err(refused) = check(file) {
+            let early = matches!(refused.number, 1 | 2);
+            assert!(if early { refused.place == 0 } else { refused.place < file.len() });
+            assert_eq!(records(file), Err(refused));
+            assert_eq!(properties(file, 0), Err(refused));
+            assert_eq!(palette(file, 0, b"").err(), Some(refused));
+            assert_eq!(clean_copy(file, 0), Err(refused));
+        }
+    });
+}
+
+#[test]
+fn listings_agree() {
+    let mut tally = Tally::default();
+    for_files(|file, random| {
+        let Ok(all) = records(file) else { return };
+        assert_eq!(all.len(), check(file).unwrap().chunks);
+        let number = random.below(all.len() + 1);
+        let one = record(file, number);
+        assert_eq!(one.ok(), all.get(number).copied());
+        tally.add(&one);
+        tally.add(&data(file, number));
+        let mut table = vec![all[0]; random.between(all.len() - 1, all.len() + 1)];
+        let filled = fill_table(file, &mut table);
+        tally.add(&filled);
+        assert!(filled.is_err() || table[..all.len()] == all);
+        let lines = listing_text(file).iter().filter(|byte| **byte == b'\n').count();
+        assert!(file.len() > 65_536 || lines == 6 + 6 * all.len());
+    });
+    tally.needs([0, 13, 14, 15]);
+}
+
+#[test]
+fn clean_copies_are_accepted() {
+    for_files(|file, _| {
+        let Ok(told) = check(file) else { return };
+        let copy = clean_copy(file, told.end).unwrap();
+        assert_eq!(clean_copy(file, told.end - 1).unwrap_err().number, 32);
+        let again = check(&copy).unwrap();
+        assert_eq!((again.chunks, again.end, again.trailing), (told.chunks, told.end, 0));
+        assert_eq!(records(&copy), records(file));
+        assert_eq!(clean_copy(&copy, told.end), Ok(copy.clone()));
+        for one in records(file).unwrap().iter().filter(|one| !one.kind.is_group()) {
+            assert_eq!(data(&copy, one.number), data(file, one.number));
+            assert!(one.size % 2 == 0 || copy[one.place + 8 + one.size] == 0);
+        }
+        assert_eq!(properties(&copy, 0), properties(file, 0));
+    });
+}
+
+#[test]
+fn picture_numbers() {
+    let mut tally = Tally::default();
+    for_files(|file, random| {
+        let Query { picture, start, row_length, frame_length } = generate::query(random, file);
+        let told = properties(file, picture);
+        assert_eq!(palette(file, picture, b"rgb").err(), told.as_ref().err().copied());
+        tally.add(&told);
+        let line = scan_line(file, picture, start, row_length);
+        tally.add(&line);
+        assert!(line.is_err() || line.unwrap().colours.len() == row_length);
+        tally.add(&frame(file, picture, frame_length));
+    });
+    tally.needs([0].into_iter().chain(20..=29));
+}
+
+/// A frame is its scan lines in turn, and the plain decoder gives the same.
+#[test]
+fn frames_are_scan_lines() {
+    let mut read = 0;
+    for_files(|file, random| {
+        let picture = generate::query(random, file).picture;
+        let Ok(told) = properties(file, picture) else { return };
+        let Some(body) = told.body.clone() else { return };
+        let (width, height) = (usize::from(told.header.width), usize::from(told.header.height));
+        let whole = frame(file, picture, width * height);
+        let mut buffer = vec![9; width * height];
+        let plain = plain_frame(&told.header, &file[body.clone()], &mut buffer);
+        assert_eq!(plain.err(), whole.as_ref().err().copied());
+        let mut place = 0;
+        for y in 0..height {
+            match scan_line(file, picture, place, width) {
+                Err(refused) => return assert_eq!(whole, Err(refused)),
+                Ok(line) => {
+                    place = line.next;
+                    assert!(whole.is_err() || line.colours == buffer[y * width..(y + 1) * width]);
+                }
+            }
+        }
+        let whole = whole.unwrap();
+        assert_eq!((whole.colours, whole.leftover), (buffer, body.len() - place));
+        read += 1;
+    });
+    assert!(read > files() / 20, "{read} frames read");
+}
+
+#[test]
+fn packed_rows_read_back() {
+    let mut random = Random::new(seed());
+    let mut tally = Tally::default();
+    for _ in 0..files() {
+        let input = generate::row_input(&mut random);
+        let answer = pack(&input.row, input.room);
+        tally.add(&answer);
+        let Ok(packed) = answer else { continue };
+        assert!(packed.len() <= input.row.len() + input.row.len().div_ceil(128));
+        let mut buffer = vec![0; input.room];
+        assert_eq!(plain_pack(&input.row, &mut buffer), Some(packed.len()));
+        assert_eq!(buffer[..packed.len()], packed);
+        assert_eq!(unpacked(&packed), input.row);
+    }
+    tally.needs([0, 31, 32]);
+}
+
+/// Expands sound ByteRun1 data, for the test alone.
+fn unpacked(mut packed: &[u8]) -> Vec<u8> {
+    let mut row = Vec::new();
+    while let [code, rest @ ..] = packed {
+        let code = usize::from(*code);
+        if code < 128 {
+            row.extend(&rest[..code + 1]);
+            packed = &rest[code + 1..];
+        } else {
+            row.extend(std::iter::repeat_n(rest[0], 257 - code));
+            packed = &rest[1..];
+        }
+    }
+    row
+}
+
+#[test]
+fn written_pictures_read_back() {
+    let mut random = Random::new(seed());
+    let mut tally = Tally::default();
+    for _ in 0..files() {
+        let input = generate::writer_input(&mut random);
+        let answer = write_picture(&input.fields, &input.palette, &input.frame, input.room);
+        tally.add(&answer);
+        let Ok(file) = answer else { continue };
+        assert_eq!(check(&file).unwrap().end, file.len());
+        assert_eq!(clean_copy(&file, file.len()), Ok(file.clone()));
+        let (header, given) = (properties(&file, 0).unwrap().header, input.fields);
+        assert_eq!(
+            (header.width, header.height, header.x, header.y),
+            (given.width, given.height, given.x, given.y)
+        );
+        assert_eq!(
+            (header.planes, header.masking, header.compression),
+            (given.planes, given.masking, given.compression)
+        );
+        assert_eq!((header.pad1, header.transparent_color), (0, given.transparent_color));
+        assert_eq!((header.x_aspect, header.y_aspect), (given.x_aspect, given.y_aspect));
+        assert_eq!((header.page_width, header.page_height), (given.page_width, given.page_height));
+        assert_eq!(palette(&file, 0, b""), Ok(&input.palette[..]));
+        let read = frame(&file, 0, input.frame.len()).unwrap();
+        assert_eq!((read.colours, read.leftover), (input.frame, 0));
+    }
+    let huge = generate::oversize_writer_input(&mut random);
+    tally.add(&write_picture(&huge.fields, &huge.palette, &huge.frame, huge.room));
+    tally.needs([0, 32, 33, 34, 35]);
+}
+
+#[test]
+fn same_seed_same_files() {
+    let make = |seed| generate::file(&mut Random::new(seed));
+    assert!((0..200).all(|seed| make(seed) == make(seed)));
+}
+
+/// Generated pictures cover every plane count, mask, compression and origin.
+#[test]
+fn pictures_are_varied() {
+    let mut planes = [0; 9];
+    let mut kinds = std::collections::HashSet::new();
+    let mut levels = [0; 18];
+    for_files(|file, random| {
+        let Ok(all) = records(file) else { return };
+        for one in &all {
+            levels[one.level] += 1;
+            kinds.insert(format!("{:?}", one.kind));
+        }
+        let picture = generate::query(random, file).picture;
+        let Ok(told) = properties(file, picture) else { return };
+        planes[usize::from(told.header.planes)] += 1;
+        kinds.insert(format!(
+            "header {}, map {}",
+            origin(told.header_origin),
+            origin(told.colour_map.origin)
+        ));
+        kinds.insert(format!("mask {} packed {}", told.header.masking, told.header.compression));
+        let inside = all.iter().any(|one| one.kind == Kind::Form && one.level > 10);
+        kinds.insert(format!("deep {inside}"));
+    });
+    println!("seed {}: planes {planes:?}, levels {levels:?}, {kinds:?}", seed());
+    assert!(planes.iter().all(|count| *count > 0) && levels[1..].iter().all(|count| *count > 0));
+    assert!(kinds.len() >= 6 + 6 + 8 + 2, "{kinds:?}");
+}
+
+fn origin(origin: Origin) -> &'static str {
+    match origin {
+        Origin::Own => "own",
+        Origin::Shared(_) => "shared",
+        Origin::Absent => "absent",
+    }
+}

@@ -1,0 +1,133 @@
+//! The packer and the picture writer: examples and refusals 31 to 35.
+
+mod common;
+
+use common::refused;
+use second::plain_rows::plain_pack;
+use second::{check, frame, pack, palette, properties, write_picture, Fields};
+
+fn packed(row: &[u8]) -> Vec<u8> {
+    let out = pack(row, 20_000).unwrap();
+    let mut buffer = vec![0; out.len()];
+    assert_eq!(plain_pack(row, &mut buffer), Some(out.len()));
+    assert_eq!(buffer, out);
+    assert_eq!(plain_pack(row, &mut buffer[1..]), None);
+    out
+}
+
+fn fields(width: u16, height: u16, planes: u8, masking: u8, compression: u8) -> Fields {
+    Fields {
+        width,
+        height,
+        x: -3,
+        y: 4,
+        planes,
+        masking,
+        compression,
+        transparent_color: 0xfffe,
+        x_aspect: 10,
+        y_aspect: 11,
+        page_width: -320,
+        page_height: 200,
+    }
+}
+
+#[test]
+fn packed_rows_of_the_scope() {
+    assert_eq!(packed(&[7, 7]), [1, 7, 7]);
+    assert_eq!(packed(&[9; 128]), [0x81, 9]);
+    assert_eq!(packed(&[9; 129]), [0x81, 9, 0, 9]);
+    assert_eq!(packed(&[9; 131]), [0x81, 9, 0xfe, 9]);
+    assert_eq!(packed(&[9; 130]), [0x81, 9, 1, 9, 9]);
+}
+
+#[test]
+fn literals_stop_where_three_equal_bytes_start() {
+    assert_eq!(packed(&[1, 2, 2, 2]), [0, 1, 0xfe, 2]);
+    assert_eq!(packed(&[1, 2, 2, 3, 3, 3, 3, 4]), [2, 1, 2, 2, 0xfd, 3, 0, 4]);
+    let uneven: Vec<u8> = (0..128u8).chain([1, 1, 1]).collect();
+    assert_eq!(packed(&uneven).len(), 129 + 2);
+    let long: Vec<u8> = (0..129u8).collect();
+    assert_eq!(packed(&long)[129..], [0, 128]);
+    let at_end: Vec<u8> = (0..127u8).chain([1, 1, 1]).collect();
+    assert_eq!(packed(&at_end)[..1], [126]);
+}
+
+#[test]
+fn packer_refusals() {
+    assert_eq!(pack(&[], 9), refused(31, 0));
+    assert_eq!(pack(&[0; 8193], 0), refused(31, 0));
+    assert_eq!(pack(&[0; 8192], 127), refused(32, 0));
+    assert_eq!(pack(&[0; 8192], 128).unwrap().len(), 128);
+}
+
+#[test]
+fn lengths_of_the_scope() {
+    let colours = [1, 2, 3];
+    assert_eq!(write_picture(&fields(3, 1, 2, 0, 0), b"", &colours, 52).unwrap().len(), 52);
+    assert_eq!(write_picture(&fields(3, 1, 2, 0, 1), b"", &colours, 54).unwrap().len(), 54);
+    assert_eq!(write_picture(&fields(3, 1, 2, 0, 1), b"", &colours, 53), refused(32, 0));
+}
+
+#[test]
+fn written_bytes() {
+    let file = write_picture(&fields(3, 1, 2, 2, 1), &[1, 2, 3], &[1, 2, 3], 100).unwrap();
+    let mut expected = b"FORM\0\0\0\x3aILBMBMHD\0\0\0\x14".to_vec();
+    expected.extend([0, 3, 0, 1, 0xff, 0xfd, 0, 4, 2, 2, 1, 0, 0xff, 0xfe, 10, 11, 0xfe, 0xc0, 0, 200]);
+    expected.extend(b"CMAP\0\0\0\x03\x01\x02\x03\0BODY\0\0\0\x06\x01\xa0\0\x01\x60\0");
+    assert_eq!(file, expected);
+}
+
+#[test]
+fn writer_refusals_stand_in_order() {
+    let write = |fields: Fields, palette: usize, frame: &[u8]| {
+        write_picture(&fields, &vec![0; palette], frame, 0).unwrap_err().number
+    };
+    for bad in [fields(0, 1, 1, 0, 0), fields(1, 0, 1, 0, 0)] {
+        assert_eq!(write(bad, 0, &[]), 33);
+    }
+    let bad = [(0, 0, 0), (9, 0, 0), (1, 1, 0), (1, 4, 0), (1, 0, 2)];
+    for (planes, masking, compression) in bad {
+        assert_eq!(write(fields(1, 1, planes, masking, compression), 0, &[9]), 33);
+    }
+    assert_eq!(write(fields(1, 1, 1, 0, 0), 4, &[9]), 33);
+    assert_eq!(write(fields(1, 1, 1, 0, 0), 771, &[9]), 33);
+    assert_eq!(write(fields(1, 1, 1, 0, 0), 768, &[9, 9]), 33);
+    assert_eq!(write(fields(1, 1, 1, 0, 0), 768, &[2]), 34);
+    assert_eq!(write(fields(1, 1, 8, 0, 0), 768, &[255]), 32);
+    let huge = vec![255; 4096 * 4096];
+    assert_eq!(write(fields(4096, 4096, 8, 0, 0), 0, &huge), 35);
+    assert_eq!(write(fields(4096, 4096, 7, 0, 0), 0, &huge), 34);
+}
+
+/// 8 planes of 41,941 rows of 50 bytes and 253 colours fill a file exactly.
+#[test]
+fn longest_result() {
+    let given = fields(385, 41_941, 8, 0, 0);
+    let colours = vec![0; 385 * 41_941];
+    let written = |palette: usize, room| write_picture(&given, &vec![0; palette], &colours, room);
+    let longest = written(3 * 253, 16_777_216).unwrap();
+    assert_eq!((longest.len(), check(&longest).unwrap().chunks), (16_777_216, 4));
+    assert_eq!(written(3 * 253, 16_777_215), refused(32, 0));
+    assert_eq!(written(3 * 254, 16_777_215), refused(35, 0));
+}
+
+#[test]
+fn written_pictures_read_back() {
+    for compression in 0..=1 {
+        for width in 1..40u16 {
+            let planes = (width % 8 + 1) as u8;
+            let mask = (1u16 << planes) - 1;
+            let colours: Vec<u8> = (0..width * 3).map(|n| ((n * n / 5) & mask) as u8).collect();
+            let given = fields(width, 3, planes, width as u8 % 2 * 2, compression);
+            let map = vec![5; usize::from(width) * 3];
+            let file = write_picture(&given, &map, &colours, 1 << 20).unwrap();
+            assert_eq!(check(&file).unwrap().end, file.len());
+            let header = properties(&file, 0).unwrap().header;
+            assert_eq!((header.width, header.x, header.pad1), (given.width, given.x, 0));
+            assert_eq!(palette(&file, 0, b""), Ok(&map[..]));
+            let read = frame(&file, 0, colours.len()).unwrap();
+            assert_eq!((read.colours, read.leftover), (colours, 0));
+        }
+    }
+}
