@@ -1,0 +1,4 @@
+pub mod ByteRun
+pub mod Examples
+pub mod Laws
+pub mod Packing

@@ -1,0 +1,307 @@
+-- What one turn of a loop over members does: the first chunk is read, and the loop goes on with those after it.
+use Prim.Native.Nat.{ℕ, zero, suc, _+_, _-_, _*_, _/_, _%_, _^_, _≤_, _<_}
+use mathlib.Core.Path.{_≡_, refl, sym, ap, _∙_}
+use mathlib.Core.Bool.{Bool, true, false}
+use mathlib.Core.List.{List, [], _∷_, _++_}
+use mathlib.Core.Option.{Option, some, none as nothing}
+use lib.Dec.{eqb}
+use lib.ListN.{length, drop, length-append}
+use lib.Seq.{slice}
+use mir.Syntax.{w64}
+use mir.Val.{Fits}
+use borrow.Author.Tests.{eq-eqb, ne-eqb}
+use native.Mathlib.Omega.{arith}
+use Rattle.name.specs.Name.{pick, kindOf}
+use Rattle.tree.specs.Chunks.{Chunks, none, leaf, group, bytes, word, nextAt}
+use Rattle.tree.specs.Rules.{isGroup}
+use Rattle.grammar.specs.Read.{Regular, length-leaf, length-group, leaf-fits, leaf-name, leaf-size, leaf-data, leaf-next, leaf-rest, group-fits, group-name, group-size, group-next, group-rest}
+use Rattle.ilbm.specs.Contents.{BODY, lastShared, bodiesIn}
+use Rattle.members.specs.declared.Sibling.{Sibling}
+use Rattle.members.specs.declared.Part.{Part}
+use Rattle.members.specs.declared.Part.the-variants.{Nothing, Between}
+use Rattle.members.specs.Members.{Holds, Row, Shows, Front, Tells, IsLast, CountsBodies, StopsAtBody, untilBody, firstOf, IsBody}
+
+-- no chunks take no room
+empty : length (bytes none) ≡ 0
+unfolding bytes
+empty = refl
+
+-- a header lies inside the file
+pub row-room : (s : List ℕ) (p e : ℕ) → Row s p e → p < e → p + 8 ≤ length s
+row-room s p e (none, R, h) l = absurd (omega (arith, empty, h .ends))
+row-room s p e (leaf n d pd F, R, h) l = omega (arith, length-leaf n d pd F, h .ends, h .inside)
+row-room s p e (group n t G F, R, h) l = omega (arith, length-group n t G F, h .ends, h .inside)
+
+module _ (s : List ℕ) (p e n z : ℕ) (a : n ≡ word s p) (b : z ≡ word s (p + 4)) (l : p < e) where
+  next-is : p + 8 + (z + 1) / 2 * 2 ≡ nextAt s p
+  next-is = rw (← b) (omega arith)
+
+  pub front-read : (F : Chunks) (R : List ℕ) → Holds s p e F R → Front s e n (p + 8) (p + 8 + z) (p + 8 + (z + 1) / 2 * 2) F R
+  front-read none R h = absurd (omega (arith, empty, h .ends))
+  front-read (leaf m d pd F) R h =
+      let x = h .regular in
+      let y = leaf-size s p m d pd F R x (h .short) (h .rest) in
+      let f = leaf-fits s p m d pd F R x (h .short) (h .rest) in
+      let w = leaf-next s p m d pd F R x (h .short) (h .rest) in
+      let c : z ≡ length d = b ∙ y in
+      let v = length-leaf m d pd F in
+      (a ∙ leaf-name s p m d pd F R x (h .short) (h .rest),
+       (rw c (leaf-data s p m d pd F R x (h .short) (h .rest)), omega arith, omega arith),
+       rw next-is (record { rest = leaf-rest s p m d pd F R x (h .short) (h .rest); regular = x .3; ends = omega (arith, h .ends); inside = h .inside; short = h .short }))
+  front-read (group m t G F) R h =
+      let x = h .regular in
+      let w = group-next s p m t G F R x (h .short) (h .rest) in
+      let v = length-group m t G F in
+      (a ∙ group-name s p m t G F R x (h .short) (h .rest),
+       rw next-is (record { rest = group-rest s p m t G F R x (h .short) (h .rest); regular = x .4; ends = omega (arith, h .ends); inside = h .inside; short = h .short }))
+
+  next-inside : (F : Chunks) (R : List ℕ) → Front s e n (p + 8) (p + 8 + z) (p + 8 + (z + 1) / 2 * 2) F R → p + 8 + (z + 1) / 2 * 2 ≤ e
+  next-inside none R f = absurd f
+  next-inside (leaf m d pd F) R f = omega (arith, f .2 .ends)
+  next-inside (group m t G F) R f = omega (arith, f .1 .ends)
+
+  pub sibling-inside : Row s p e → p + 8 + (z + 1) / 2 * 2 ≤ e
+  sibling-inside (F, R, h) = next-inside F R (front-read F R h)
+
+-- the sums of a sibling's places fit
+module _ (s : List ℕ) (p e z : ℕ) (r : Row s p e) (l : p < e) (b : z ≡ word s (p + 4)) where
+  pub data-inside : p + 8 + (z + 1) / 2 * 2 ≤ length s
+  data-inside = let i = sibling-inside s p e (word s p) z refl b l r in let (F, R, h) = r in omega (arith, h .inside)
+
+pub row-next : (s : List ℕ) (q e : ℕ) (m : Sibling) → Row s q e → Tells s q e m → Row s (m .next) e
+row-next s q e m (F, R, h) t = go F R (t .front F R h)
+  where
+    go : (F : Chunks) (R : List ℕ) → Front s e (m .name .code) (m .from) (m .to) (m .next) F R → Row s (m .next) e
+    go none R f = absurd f
+    go (leaf n d p F) R f = (F, R, f .2)
+    go (group n t G F) R f = (F, R, f .1)
+
+-- where the end is reached no chunk is left
+all-read : (s : List ℕ) (q e : ℕ) (F : Chunks) (R : List ℕ) → e ≤ q → Holds s q e F R → F ≡ none
+all-read s q e none R l h = refl
+all-read s q e (leaf n d p F) R l h = absurd (omega (arith, length-leaf n d p F, h .ends))
+all-read s q e (group n t G F) R l h = absurd (omega (arith, length-group n t G F, h .ends))
+
+-- a name of no group is no group's name
+no-group : (n name : ℕ) → isGroup (kindOf n) ≡ true → isGroup (kindOf name) ≡ false → eqb n name ≡ false
+no-group n name g h = ne-eqb n name (λ i. let z : _≡_ {A = ℕ} 0 1 = cc in omega arith)
+
+-- the part found so far, and that the chunks to come bring it to v
+abbrev pub Looks : List ℕ → ℕ → ℕ → ℕ → Part → Option (List ℕ) → Type 0
+Looks s e name q part v =
+    (so-far : Option (List ℕ)) × (F : Chunks) × (R : List ℕ) × Shows s part so-far × Holds s q e F R × (lastShared name so-far F ≡ v)
+
+shows-pick :
+    (s : List ℕ) (hit : Bool) (a b : ℕ) (d : List ℕ) (part : Part) (so-far : Option (List ℕ)) → Shows s (Between a b) (some d) → Shows s part so-far →
+    Shows s (pick hit (Between a b) part) (pick hit (some d) so-far)
+shows-pick s true a b d part so-far x y = x
+shows-pick s false a b d part so-far x y = y
+
+module _ (s : List ℕ) (e name q : ℕ) (part part' : Part) (v : Option (List ℕ)) (m : Sibling) where
+  pub look-more :
+      isGroup (kindOf name) ≡ false → Tells s q e m → part' ≡ pick (eqb (m .name .code) name) (Between (m .from) (m .to)) part →
+      Looks s e name q part v → Looks s e name (m .next) part' v
+  unfolding lastShared
+  look-more k t i (so-far, F, R, sh, h, u) = go F sh u (t .front F R h) (h .regular)
+    where
+      go :
+          (F : Chunks) → Shows s part so-far → lastShared name so-far F ≡ v → Front s e (m .name .code) (m .from) (m .to) (m .next) F R → Regular F →
+          Looks s e name (m .next) part' v
+      go none sh u f g = absurd f
+      go (leaf n d p F) sh u f g =
+          (pick (eqb n name) (some d) so-far, F, R,
+           rw (i, f .0) (shows-pick s (eqb n name) (m .from) (m .to) d part so-far (f .1) sh), f .2, u)
+      go (group n t G F) sh u f g = (so-far, F, R, rw (i, f .0, no-group n name (g .0) k) sh, f .1, u)
+
+pub look-end : (s : List ℕ) (e name q : ℕ) (part : Part) (v : Option (List ℕ)) → e ≤ q → Looks s e name q part v → Shows s part v
+unfolding lastShared
+look-end s e name q part v l (so-far, F, R, sh, h, u) = let n : lastShared name so-far none ≡ v = rw (all-read s q e F R l h) at u in rw (← n) sh
+
+pub look-start : (s : List ℕ) (p e name : ℕ) (F : Chunks) (R : List ℕ) → Holds s p e F R → Looks s e name p Nothing (lastShared name nothing F)
+look-start s p e name F R h = (nothing, F, R, tt, h, refl)
+
+-- BODY is no group
+body-leaf : isGroup (kindOf BODY) ≡ false
+unfolding kindOf
+body-leaf = refl
+
+-- the BODYs counted so far, and those among the chunks to come
+abbrev pub Counting : List ℕ → ℕ → ℕ → ℕ → ℕ → Type 0
+Counting s e q n v = (F : Chunks) × (R : List ℕ) × Holds s q e F R × (n + length (bodiesIn F) ≡ v)
+
+one-more : (hit : Bool) (d : List ℕ) (rest : List (List ℕ)) → length (pick hit (d ∷ []) [] ++ rest) ≡ pick hit 1 0 + length rest
+one-more true d rest = omega arith
+one-more false d rest = omega arith
+
+-- the place of the first BODY, told from the chunks to come
+abbrev pub Until : List ℕ → ℕ → ℕ → ℕ → Type 0
+Until s e q v = (F : Chunks) × (R : List ℕ) × Holds s q e F R × (q + length (bytes (untilBody F)) ≡ v)
+
+-- the first BODY's data, told from the chunks to come
+abbrev pub Seeking : List ℕ → ℕ → ℕ → Option (List ℕ) → Type 0
+Seeking s e q v = (F : Chunks) × (R : List ℕ) × Holds s q e F R × (firstOf (bodiesIn F) ≡ v)
+
+module _ (s : List ℕ) (e q : ℕ) (m : Sibling) (t : Tells s q e m) where
+  pub count-more : (n k v : ℕ) → k ≡ pick (eqb (m .name .code) BODY) 1 0 → Counting s e q n v → Counting s e (m .next) (n + k) v
+  unfolding bodiesIn
+  count-more n k v i (F, R, h, u) = go F u (t .front F R h) (h .regular)
+    where
+      go :
+          (F : Chunks) → n + length (bodiesIn F) ≡ v → Front s e (m .name .code) (m .from) (m .to) (m .next) F R → Regular F →
+          Counting s e (m .next) (n + k) v
+      go none u f g = absurd f
+      go (leaf c d p F) u f g =
+          let j : k ≡ pick (eqb c BODY) 1 0 = rw (f .0) at i in
+          (F, R, f .2, omega (arith, one-more (eqb c BODY) d (bodiesIn F)))
+      go (group c x G F) u f g =
+          let j : k ≡ 0 = rw (f .0, no-group c BODY (g .0) body-leaf) at i in
+          (F, R, f .1, omega arith)
+
+  pub until-more : (v : ℕ) → (m .name .code ≡ BODY → ⊥) → Until s e q v → Until s e (m .next) v
+  unfolding untilBody
+  until-more v i (F, R, h, u) = go F u (t .front F R h) h
+    where
+      go :
+          (F : Chunks) → q + length (bytes (untilBody F)) ≡ v → Front s e (m .name .code) (m .from) (m .to) (m .next) F R → Holds s q e F R →
+          Until s e (m .next) v
+      go none u f h = absurd f
+      go (leaf c d p F) u f h =
+          let j : eqb c BODY ≡ false = ne-eqb c BODY (λ y. i (f .0 ∙ y)) in
+          let w : q + length (bytes (leaf c d p (untilBody F))) ≡ v = rw j at u in
+          (F, R, f .2, omega (arith, length-leaf c d p (untilBody F), length-leaf c d p F, h .ends, f .2 .ends))
+      go (group c x G F) u f h =
+          (F, R, f .1, omega (arith, length-group c x G (untilBody F), length-group c x G F, h .ends, f .1 .ends))
+
+  pub until-body : (v : ℕ) → m .name .code ≡ BODY → Until s e q v → q ≡ v
+  unfolding untilBody bytes
+  until-body v i (F, R, h, u) = go F u (t .front F R h) (h .regular)
+    where
+      go : (F : Chunks) → q + length (bytes (untilBody F)) ≡ v → Front s e (m .name .code) (m .from) (m .to) (m .next) F R → Regular F → q ≡ v
+      go none u f g = absurd f
+      go (leaf c d p F) u f g =
+          let j : eqb c BODY ≡ true = eq-eqb c BODY (sym (f .0) ∙ i) in
+          let w : q + length (bytes none) ≡ v = rw j at u in
+          omega arith
+      go (group c x G F) u f g = absurd (let j : c ≡ BODY = sym (f .0) ∙ i in let z : _≡_ {A = ℕ} 0 1 = cc (body-leaf) in omega arith)
+
+  pub body-more : (v : Option (List ℕ)) → (m .name .code ≡ BODY → ⊥) → Seeking s e q v → Seeking s e (m .next) v
+  unfolding bodiesIn
+  body-more v i (F, R, h, u) = go F u (t .front F R h)
+    where
+      go :
+          (F : Chunks) → firstOf (bodiesIn F) ≡ v → Front s e (m .name .code) (m .from) (m .to) (m .next) F R → Seeking s e (m .next) v
+      go none u f = absurd f
+      go (leaf c d p F) u f =
+          let j : eqb c BODY ≡ false = ne-eqb c BODY (λ y. i (f .0 ∙ y)) in
+          let w : firstOf (bodiesIn F) ≡ v = rw j at u in
+          (F, R, f .2, w)
+      go (group c x G F) u f = (F, R, f .1, u)
+
+  pub body-here : (v : Option (List ℕ)) → m .name .code ≡ BODY → Seeking s e q v → Shows s (Between (m .from) (m .to)) v
+  unfolding bodiesIn
+  body-here v i (F, R, h, u) = go F u (t .front F R h) (h .regular)
+    where
+      go :
+          (F : Chunks) → firstOf (bodiesIn F) ≡ v → Front s e (m .name .code) (m .from) (m .to) (m .next) F R → Regular F →
+          Shows s (Between (m .from) (m .to)) v
+      go none u f g = absurd f
+      go (leaf c d p F) u f g =
+          let j : eqb c BODY ≡ true = eq-eqb c BODY (sym (f .0) ∙ i) in
+          let w : some d ≡ v = rw j at u in
+          rw (← w) (f .1)
+      go (group c x G F) u f g = absurd (let j : c ≡ BODY = sym (f .0) ∙ i in let z : _≡_ {A = ℕ} 0 1 = cc (body-leaf) in omega arith)
+
+pub count-end : (s : List ℕ) (e q n v : ℕ) → e ≤ q → Counting s e q n v → n ≡ v
+unfolding bodiesIn
+count-end s e q n v l (F, R, h, u) = let w : n + length (bodiesIn none) ≡ v = rw (all-read s q e F R l h) at u in omega arith
+
+pub until-end : (s : List ℕ) (e q v : ℕ) → e ≤ q → Until s e q v → q ≡ v
+unfolding untilBody bytes
+until-end s e q v l (F, R, h, u) = let w : q + length (bytes (untilBody none)) ≡ v = rw (all-read s q e F R l h) at u in omega arith
+
+pub body-end : (s : List ℕ) (e q : ℕ) (v : Option (List ℕ)) → e ≤ q → Seeking s e q v → Shows s Nothing v
+unfolding bodiesIn
+body-end s e q v l (F, R, h, u) = let w : firstOf (bodiesIn none) ≡ v = rw (all-read s q e F R l h) at u in rw (← w) tt
+
+pub row-le : (s : List ℕ) (p e : ℕ) → Row s p e → p ≤ e
+row-le s p e (F, R, h) = omega (arith, h .ends)
+
+-- The four loops' invariants, from the place p at which each began: whatever chunks stand there.
+pub record Looked (s : List ℕ) (p e name q : ℕ) (part : Part) : Type 0 where
+  pub at : (F : Chunks) (R : List ℕ) → Holds s p e F R → Looks s e name q part (lastShared name nothing F)
+
+pub record Counted (s : List ℕ) (p e q n : ℕ) : Type 0 where
+  pub at : (F : Chunks) (R : List ℕ) → Holds s p e F R → Counting s e q n (length (bodiesIn F))
+
+pub record Stopping (s : List ℕ) (p e q : ℕ) : Type 0 where
+  pub at : (F : Chunks) (R : List ℕ) → Holds s p e F R → Until s e q (p + length (bytes (untilBody F)))
+
+pub record Sought (s : List ℕ) (p e q : ℕ) : Type 0 where
+  pub at : (F : Chunks) (R : List ℕ) → Holds s p e F R → Seeking s e q (firstOf (bodiesIn F))
+
+module _ (s : List ℕ) (p e : ℕ) where
+  pub looked-start : (name : ℕ) → Looked s p e name p Nothing
+  looked-start name = record { at = λ F R h. look-start s p e name F R h }
+
+  pub counted-start : Counted s p e p 0
+  counted-start = record { at = λ F R h. (F, R, h, omega arith) }
+
+  pub stopping-start : Stopping s p e p
+  stopping-start = record { at = λ F R h. (F, R, h, refl) }
+
+  pub sought-start : Sought s p e p
+  sought-start = record { at = λ F R h. (F, R, h, refl) }
+
+  module _ (q : ℕ) (m : Sibling) (t : Tells s q e m) where
+    pub looked-more :
+        (name : ℕ) (part part' : Part) → isGroup (kindOf name) ≡ false → part' ≡ pick (eqb (m .name .code) name) (Between (m .from) (m .to)) part →
+        Looked s p e name q part → Looked s p e name (m .next) part'
+    looked-more name part part' k i l =
+        record { at = λ F R h. look-more s e name q part part' (lastShared name nothing F) m k t i (l .at F R h) }
+
+    pub counted-more : (n k : ℕ) → k ≡ pick (eqb (m .name .code) BODY) 1 0 → Counted s p e q n → Counted s p e (m .next) (n + k)
+    counted-more n k i l = record { at = λ F R h. count-more s e q m t n k (length (bodiesIn F)) i (l .at F R h) }
+
+    pub stopping-more : (m .name .code ≡ BODY → ⊥) → Stopping s p e q → Stopping s p e (m .next)
+    stopping-more i l = record { at = λ F R h. until-more s e q m t (p + length (bytes (untilBody F))) i (l .at F R h) }
+
+    pub stopping-here : m .name .code ≡ BODY → Stopping s p e q → StopsAtBody s p e q
+    stopping-here i l F R h = until-body s e q m t (p + length (bytes (untilBody F))) i (l .at F R h)
+
+    pub sought-more : (m .name .code ≡ BODY → ⊥) → Sought s p e q → Sought s p e (m .next)
+    sought-more i l = record { at = λ F R h. body-more s e q m t (firstOf (bodiesIn F)) i (l .at F R h) }
+
+    pub sought-here : m .name .code ≡ BODY → Sought s p e q → IsBody s p e (Between (m .from) (m .to))
+    sought-here i l F R h = body-here s e q m t (firstOf (bodiesIn F)) i (l .at F R h)
+
+    -- what keeps the loops going
+    pub more-room : m .next ≤ e
+    more-room = t .inside
+
+    pub more-less : q < e → e - m .next < e - q
+    more-less h = omega (arith, t .later, t .inside)
+
+    pub more-count : (n k : ℕ) → k ≡ pick (eqb (m .name .code) BODY) 1 0 → n ≤ q → n + k ≤ m .next
+    more-count n k i l = omega (arith, at-most (eqb (m .name .code) BODY), t .later)
+      where
+        at-most : (b : Bool) → pick b 1 0 ≤ 1
+        at-most true = omega arith
+        at-most false = omega arith
+
+    pub more-fits : (n k : ℕ) → k ≡ pick (eqb (m .name .code) BODY) 1 0 → n ≤ q → e < 2 ^ 64 → Fits w64 (n + k)
+    more-fits n k i l f = omega (arith, more-count n k i l, t .inside)
+
+  module _ (q : ℕ) (l : e ≤ q) where
+    pub looked-end : (name : ℕ) (part : Part) → Looked s p e name q part → IsLast s p e name part
+    looked-end name part k F R h = look-end s e name q part (lastShared name nothing F) l (k .at F R h)
+
+    pub counted-end : (n : ℕ) → Counted s p e q n → CountsBodies s p e n
+    counted-end n k F R h = count-end s e q n (length (bodiesIn F)) l (k .at F R h)
+
+    pub stopping-end : Stopping s p e q → StopsAtBody s p e q
+    stopping-end k F R h = until-end s e q (p + length (bytes (untilBody F))) l (k .at F R h)
+
+    pub sought-end : Sought s p e q → IsBody s p e Nothing
+    sought-end k F R h = body-end s e q (firstOf (bodiesIn F)) l (k .at F R h)
+
+pub ruleset loop-laws = (row-le, row-next, looked-start, counted-start, stopping-start, sought-start, looked-more, counted-more, stopping-more, stopping-here, sought-more, sought-here, more-room, more-less, more-count, more-fits)

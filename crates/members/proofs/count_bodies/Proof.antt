@@ -1,0 +1,59 @@
+use Prim.Native.Nat.{ℕ, _+_, _-_, _≤_}
+use native.Mathlib.Omega.{arith}
+use borrow.Author.Needs.{needs}
+use Rattle.members.specs.Members.{Row}
+use Rattle.members.proofs.Laws.{Looked, Counted, Stopping, Sought, loop-laws, looked-end, counted-end, stopping-end, sought-end}
+use Rattle.members.proofs.count_bodies.Statement.{statement}
+use Rattle.members.proofs.count_bodies.Tie as tie
+use Rattle.members.proofs.count_bodies.Reads as reads
+use Rattle.members.proofs.count_bodies.Lts as lts
+use Rattle.members.proofs.one_if.Reads as one-if-reads
+use Rattle.members.proofs.sibling_at.Reads as sibling-at-reads
+
+abbrev Inv-loop : tie.InvT-loop
+Inv-loop s p e q₀ n₀ q n = (q ≤ e) × (n ≤ q) × Row s q e × Counted s p e q n
+
+abbrev μ-loop : tie.MeasureT-loop
+μ-loop s p e q₀ n₀ q n = e - q
+
+-- src/lib.rt:79:5
+loop-holds : tie.Need-loop-holds Inv-loop μ-loop
+loop-holds c = search (loop-laws, needs)
+
+-- src/lib.rt:80:13
+sibling-at-requires : tie.Need-sibling-at-requires Inv-loop μ-loop
+sibling-at-requires c κs = search (loop-laws, needs)
+
+-- src/lib.rt:81:17
+one-if-requires : tie.Need-one-if-requires Inv-loop μ-loop
+one-if-requires c κs = search (loop-laws, needs)
+
+-- src/lib.rt:81:13
+add-n : tie.Need-add-n Inv-loop μ-loop
+add-n c = search (loop-laws, needs)
+
+-- src/lib.rt:79:5
+loop-less : tie.Need-loop-less Inv-loop μ-loop
+loop-less c = search (loop-laws, needs)
+
+-- src/lib.rt:79:5
+loop-again : tie.Need-loop-again Inv-loop μ-loop
+loop-again c = search (loop-laws, needs)
+
+-- src/lib.rt:73:1
+returns : tie.Need-returns Inv-loop μ-loop
+returns c = counted-end _ _ _ _ (omega arith) _ (c .before .loop .inv .3)
+
+pub count-bodies-spec : {M : Type 1} → statement M
+count-bodies-spec =
+    tie.close
+    (tie.spec
+    Inv-loop
+    μ-loop
+    loop-holds
+    sibling-at-requires
+    one-if-requires
+    add-n
+    loop-less
+    loop-again
+    returns)

@@ -1,0 +1,53 @@
+use Prim.Native.Nat.{ℕ, _+_, _-_, _≤_}
+use native.Mathlib.Omega.{arith}
+use borrow.Author.Needs.{needs}
+use Rattle.members.specs.Members.{Row}
+use Rattle.members.proofs.Laws.{Looked, Counted, Stopping, Sought, loop-laws, looked-end, counted-end, stopping-end, sought-end}
+use Rattle.members.proofs.first_body.Statement.{statement}
+use Rattle.members.proofs.first_body.Tie as tie
+use Rattle.members.proofs.first_body.Reads as reads
+use Rattle.members.proofs.first_body.Lts as lts
+use Rattle.members.proofs.sibling_at.Reads as sibling-at-reads
+
+abbrev Inv-loop : tie.InvT-loop
+Inv-loop s p e q₀ q = (q ≤ e) × Row s q e × Sought s p e q
+
+abbrev μ-loop : tie.MeasureT-loop
+μ-loop s p e q₀ q = e - q
+
+-- src/lib.rt:109:5
+loop-holds : tie.Need-loop-holds Inv-loop μ-loop
+loop-holds c = search (loop-laws, needs)
+
+-- src/lib.rt:110:13
+sibling-at-requires : tie.Need-sibling-at-requires Inv-loop μ-loop
+sibling-at-requires c κs = search (loop-laws, needs)
+
+-- src/lib.rt:112:13
+returns : tie.Need-returns Inv-loop μ-loop
+returns c = search (loop-laws, needs)
+
+-- src/lib.rt:109:5
+loop-less : tie.Need-loop-less Inv-loop μ-loop
+loop-less c = search (loop-laws, needs)
+
+-- src/lib.rt:109:5
+loop-again : tie.Need-loop-again Inv-loop μ-loop
+loop-again c = search (loop-laws, needs)
+
+-- src/lib.rt:104:1
+returns-2 : tie.Need-returns-2 Inv-loop μ-loop
+returns-2 c = sought-end _ _ _ _ (omega arith) (c .before .loop .inv .2)
+
+pub first-body-spec : {M : Type 1} → statement M
+first-body-spec =
+    tie.close
+    (tie.spec
+    Inv-loop
+    μ-loop
+    loop-holds
+    sibling-at-requires
+    returns
+    loop-less
+    loop-again
+    returns-2)

@@ -1,0 +1,54 @@
+use Prim.Native.Nat.{ℕ, _+_, _-_, _≤_}
+use native.Mathlib.Omega.{arith}
+use borrow.Author.Needs.{needs}
+use Rattle.members.specs.Members.{Row}
+use Rattle.members.proofs.Laws.{Looked, Counted, Stopping, Sought, loop-laws, looked-end, counted-end, stopping-end, sought-end}
+use Rattle.members.proofs.last_named.Statement.{statement}
+use Rattle.members.proofs.last_named.Tie as tie
+use Rattle.members.proofs.last_named.Reads as reads
+use Rattle.members.proofs.last_named.Lts as lts
+use Rattle.members.proofs.newer.Reads as newer-reads
+use Rattle.members.proofs.sibling_at.Reads as sibling-at-reads
+
+abbrev Inv-loop : tie.InvT-loop
+Inv-loop s p e name q₀ part₀ q part = (q ≤ e) × Row s q e × Looked s p e (name .code) q part
+
+abbrev μ-loop : tie.MeasureT-loop
+μ-loop s p e name q₀ part₀ q part = e - q
+
+-- src/lib.rt:58:5
+loop-holds : tie.Need-loop-holds Inv-loop μ-loop
+loop-holds c = search (loop-laws, needs)
+
+-- src/lib.rt:59:13
+sibling-at-requires : tie.Need-sibling-at-requires Inv-loop μ-loop
+sibling-at-requires c κs = search (loop-laws, needs)
+
+-- src/lib.rt:60:9
+newer-requires : tie.Need-newer-requires Inv-loop μ-loop
+newer-requires c κs = search (loop-laws, needs)
+
+-- src/lib.rt:58:5
+loop-less : tie.Need-loop-less Inv-loop μ-loop
+loop-less c = search (loop-laws, needs)
+
+-- src/lib.rt:58:5
+loop-again : tie.Need-loop-again Inv-loop μ-loop
+loop-again c = search (loop-laws, needs)
+
+-- src/lib.rt:52:1
+returns : tie.Need-returns Inv-loop μ-loop
+returns c = looked-end _ _ _ _ (omega arith) _ _ (c .before .loop .inv .2)
+
+pub last-named-spec : {M : Type 1} → statement M
+last-named-spec =
+    tie.close
+    (tie.spec
+    Inv-loop
+    μ-loop
+    loop-holds
+    sibling-at-requires
+    newer-requires
+    loop-less
+    loop-again
+    returns)
