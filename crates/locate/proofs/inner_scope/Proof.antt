@@ -1,0 +1,59 @@
+use Rattle.locate.proofs.Laws.{group-laws}
+use borrow.Author.Needs.{needs}
+use Rattle.locate.proofs.inner_scope.Statement.{statement}
+use Rattle.locate.proofs.inner_scope.Tie as tie
+use Rattle.locate.proofs.inner_scope.Reads as reads
+use Rattle.locate.proofs.inner_scope.Lts as lts
+use Rattle.locate.proofs.shared_prop.Reads as shared-prop-reads
+use Rattle.tree.proofs.name_at.Reads as name-at-reads
+use Rattle.tree.proofs.size_at.Reads as size-at-reads
+
+-- src/lib.rt:64:8
+name-at-requires : tie.Need-name-at-requires
+name-at-requires c κs = search (group-laws, needs)
+
+-- src/lib.rt:65:19
+add-end : tie.Need-add-end
+add-end c = search needs
+
+-- src/lib.rt:65:38
+add-size-at : tie.Need-add-size-at
+add-size-at c = search needs
+
+-- src/lib.rt:65:27
+size-at-requires : tie.Need-size-at-requires
+size-at-requires c κs = search (group-laws, needs)
+
+-- src/lib.rt:65:19
+add-end-2 : tie.Need-add-end-2
+add-end-2 c = search (group-laws, needs)
+
+-- src/lib.rt:66:31
+add-shared-prop : tie.Need-add-shared-prop
+add-shared-prop c = search needs
+
+-- src/lib.rt:66:9
+shared-prop-requires : tie.Need-shared-prop-requires
+shared-prop-requires c κs = search (group-laws, needs)
+
+-- src/lib.rt:66:9
+returns : tie.Need-returns
+returns c = search (group-laws, needs)
+
+-- src/lib.rt:60:1
+returns-2 : tie.Need-returns-2
+returns-2 c = search (group-laws, needs)
+
+pub inner-scope-spec : {M : Type 1} → statement M
+inner-scope-spec =
+    tie.close
+    (tie.spec
+    name-at-requires
+    add-end
+    add-size-at
+    size-at-requires
+    add-end-2
+    add-shared-prop
+    shared-prop-requires
+    returns
+    returns-2)
