@@ -1,0 +1,44 @@
+-- The content of a picture as parts of the file.
+use Prim.Native.Nat.{ℕ, _+_}
+use mathlib.Core.Path.{_≡_}
+use mathlib.Core.List.{List}
+use mathlib.Core.Option.{some}
+use lib.ListN.{length}
+use Rattle.tree.specs.Chunks.{Chunks}
+use Rattle.ilbm.specs.declared.Origin.{Origin}
+use Rattle.ilbm.specs.declared.Origin.the-variants.{Own, Shared, Absent}
+use Rattle.ilbm.specs.Contents.{SharedProp, Property, own, shared, absent, sharedBy, propertyOf, Content, contentOf}
+use Rattle.members.specs.declared.Part.{Part}
+use Rattle.members.specs.declared.Part.the-variants.{Nothing, Between}
+use Rattle.members.specs.Members.{Holds, Shows, firstOf}
+use Rattle.locate.specs.Spots.{ScopeIs}
+use Rattle.content.specs.declared.Held.{Held}
+use Rattle.content.specs.declared.Contents.{Contents}
+
+-- a part of the file and an origin are this property
+abbrev pub HeldIs : List ℕ → Held → Property → Type 0
+HeldIs s h (own d) = (h .origin ≡ Own) × Shows s (h .part) (some d)
+HeldIs s h (shared p d) = (h .origin ≡ Shared p) × Shows s (h .part) (some d)
+HeldIs s h absent = (h .origin ≡ Absent) × (h .part ≡ Nothing)
+
+pub record ContentsAre (s : List ℕ) (c : Contents) (x : Content) : Type 0 where
+  pub bmhd : HeldIs s (c .bmhd) (x .bmhd)
+  pub cmap : HeldIs s (c .cmap) (x .cmap)
+  pub grab : HeldIs s (c .grab) (x .grab)
+  pub dest : HeldIs s (c .dest) (x .dest)
+  pub sprt : HeldIs s (c .sprt) (x .sprt)
+  pub camg : HeldIs s (c .camg) (x .camg)
+  pub bodies : c .bodies ≡ length (x .bodies)
+  pub body : Shows s (c .body) (firstOf (x .bodies))
+
+-- the property of this name that a shared PROP gives
+pub record SharedIs (s : List ℕ) (prop name : ℕ) (r : Held) : Type 0 where
+  pub at : (scope : List SharedProp) → ScopeIs s prop scope → HeldIs s r (sharedBy name scope)
+
+-- the property of this name that counts in a FORM whose members stand from p to e
+pub record PropertyIs (s : List ℕ) (p e prop name : ℕ) (r : Held) : Type 0 where
+  pub at : (F : Chunks) (R : List ℕ) (scope : List SharedProp) → Holds s p e F R → ScopeIs s prop scope → HeldIs s r (propertyOf name F scope)
+
+-- all of it
+pub record ContentIs (s : List ℕ) (p e prop : ℕ) (r : Contents) : Type 0 where
+  pub at : (F : Chunks) (R : List ℕ) (scope : List SharedProp) → Holds s p e F R → ScopeIs s prop scope → ContentsAre s r (contentOf F scope)
