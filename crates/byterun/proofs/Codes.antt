@@ -1,13 +1,13 @@
 -- One law for each way through `code_at` and `judge_plain`: the tests that were passed settle the definition.
-use Prim.Native.Nat.{ℕ, zero, suc, _+_, _-_, _<_, _≤_}
-use mathlib.Core.Path.{_≡_, refl, sym, ap, _∙_}
+use Prim.Native.Nat.{ℕ, _+_, _-_, _<_, _≤_}
+use mathlib.Core.Path.{_≡_}
 use mathlib.Core.List.{List}
-use lib.ListN.{length, getD, take, drop}
+use lib.ListN.{length, getD}
 use borrow.Author.Tests.{lt-ltb, le-ltb, le-leb, lt-leb, eq-eqb, ne-eqb}
 use native.Mathlib.Omega.{arith}
 use Rattle.byterun.specs.ByteRun.{codeOf, plainRow, answerOf}
 use Rattle.byterun.specs.declared.Code.the-variants.{Missing, Skip, Copy, Repeat, Long, Cut}
-use Rattle.byterun.specs.declared.RowAnswer.the-variants.{Full, Oversteps, Ends}
+use Rattle.byterun.specs.declared.RowAnswer.the-variants.{Full, Ends}
 
 module _ (body : List ℕ) (i left : ℕ) where
   pub is-missing : length body ≤ i → Missing ≡ codeOf body i left

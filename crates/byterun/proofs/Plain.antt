@@ -1,7 +1,7 @@
 -- A plain row is its part of the BODY; what was judged of a row, and what was then written, settle its answer and its bytes.
-use Prim.Native.Nat.{ℕ, zero, suc, _+_, _-_, _^_, _<_, _≤_}
-use mathlib.Core.Path.{_≡_, refl, sym, ap, _∙_}
-use mathlib.Core.List.{List, [], _∷_, _++_, append-nil}
+use Prim.Native.Nat.{ℕ, _+_, _-_, _^_, _<_, _≤_}
+use mathlib.Core.Path.{_≡_, refl, sym, _∙_}
+use mathlib.Core.List.{List, [], _∷_, append-nil}
 use mathlib.Core.Bool.{Bool, true, false}
 use lib.ListN.{length, take, drop}
 use lib.Dec.{leb}
@@ -46,14 +46,6 @@ pub ruleset plain = (plain-empty, plain-inside, plain-fits, plain-written)
 
 -- the ways through `read_row`
 module _ (row : Row) (r : RowAnswer) (is : r ≡ answerOf row) where
-  pub judged-full : (q : ℕ) → r ≡ Full q → IsFull row
-  judged-full q e = go row (sym is ∙ e)
-    where
-      go : (w : Row) → answerOf w ≡ Full q → IsFull w
-      go (filled bs p) d = tt
-      go (over p) d = let z : _≡_ {A = ℕ} 0 1 = cc in absurd (omega arith)
-      go (short p) d = let z : _≡_ {A = ℕ} 0 1 = cc in absurd (omega arith)
-
   pub read-full : (q p : ℕ) (old new : List ℕ) → r ≡ Full q → row ≡ filled new p → (Full q ≡ answerOf row) × (new ≡ bytesAfter row old)
   read-full q p old new e w = (sym e ∙ is, rw w)
 

@@ -1,8 +1,7 @@
 -- Worked rows: one computed table.
-use Prim.Native.Nat.{ℕ}
 use mathlib.Core.Path.{_≡_, refl}
-use mathlib.Core.List.{List, [], _∷_}
-use Rattle.byterun.specs.ByteRun.{Row, filled, over, short, codeOf, unpackBy, unpackRow, rowOf, answerOf, numberOf, placeOf}
+use mathlib.Core.List.{[], _∷_}
+use Rattle.byterun.specs.ByteRun.{filled, short, codeOf, unpackBy, unpackRow, answerOf, numberOf, placeOf}
 
 -- A row of 4 from FD 00, and from 80 FD 00: four zeros. A row of 2 from FE 07: 27 at 0. From 01 07: 26 at 0.
 -- A row of 2 from 01 05 06 80: the last byte belongs to the next row, which ends at the BODY's end.

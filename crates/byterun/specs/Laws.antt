@@ -2,16 +2,16 @@
 -- so a row that is not full is its code carried out, and the rest of the row read from there.
 use Prim.Native.Nat.{ℕ, zero, suc, _+_, _-_, _<_, _≤_}
 use mathlib.Core.Path.{_≡_, refl, sym, ap, _∙_}
-use mathlib.Core.List.{List, [], _∷_, _++_}
+use mathlib.Core.List.{List, []}
 use mathlib.Core.Bool.{Bool, true, false}
-use lib.ListN.{length, getD, take, drop, replicate, length-append, length-take, length-drop, length-replicate}
+use lib.ListN.{length, getD, take, drop, replicate, length-append, length-drop, length-replicate}
 use lib.Dec.{ltb, leb, eqb}
 use lib.Seq.{length-take-le}
-use borrow.Author.Tests.{lt-ltb, le-ltb, ltb-true, ltb-false, leb-true, leb-false, le-leb, lt-leb, eq-eqb, ne-eqb}
+use borrow.Author.Tests.{lt-ltb, le-ltb, ltb-true, ltb-false, leb-true, eq-eqb, ne-eqb}
 use native.Mathlib.Omega.{arith}
-use Rattle.byterun.specs.ByteRun.{Row, filled, over, short, pick, fitted, codeFor, codeOf, prepend, onCode, unpackBy, unpackRow, plainRow, rowOf, answerOf}
+use Rattle.byterun.specs.ByteRun.{Row, filled, over, short, pick, fitted, codeFor, codeOf, prepend, onCode, unpackBy, unpackRow, plainRow, rowOf, answerOf, IsFull}
 use Rattle.byterun.specs.declared.RowAnswer.{RowAnswer}
-use Rattle.byterun.specs.declared.RowAnswer.the-variants.{Full, Oversteps, Ends}
+use Rattle.byterun.specs.declared.RowAnswer.the-variants.{Full}
 use Rattle.byterun.specs.declared.Code.{Code}
 use Rattle.byterun.specs.declared.Code.the-variants.{Missing, Skip, Copy, Repeat, Long, Cut}
 
@@ -171,3 +171,17 @@ next-inside compression body at n r q is e h = go (rowOf compression body at n) 
     go (filled bs p) i d = let z : p ≡ q = cc in (omega arith, omega arith)
     go (over p) i d = let z : _≡_ {A = ℕ} 0 1 = cc in absurd (omega arith)
     go (short p) i d = let z : _≡_ {A = ℕ} 0 1 = cc in absurd (omega arith)
+
+-- a row whose answer is full is full, with some bytes
+pub judged-full : (row : Row) (r : RowAnswer) → r ≡ answerOf row → (q : ℕ) → r ≡ Full q → IsFull row
+judged-full row r is q e = go row (sym is ∙ e)
+  where
+    go : (w : Row) → answerOf w ≡ Full q → IsFull w
+    go (filled bs p) d = tt
+    go (over p) d = let z : _≡_ {A = ℕ} 0 1 = cc in absurd (omega arith)
+    go (short p) d = let z : _≡_ {A = ℕ} 0 1 = cc in absurd (omega arith)
+
+pub full-bytes : (row : Row) (q : ℕ) → answerOf row ≡ Full q → (bs : List ℕ) × (row ≡ filled bs q)
+full-bytes (filled bs p) q d = let z : p ≡ q = cc in (bs, ap (λ (k : ℕ). filled bs k) z)
+full-bytes (over p) q d = let z : _≡_ {A = ℕ} 0 1 = cc in absurd (omega arith)
+full-bytes (short p) q d = let z : _≡_ {A = ℕ} 0 1 = cc in absurd (omega arith)

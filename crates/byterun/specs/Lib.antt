@@ -1,4 +1,5 @@
 pub mod ByteRun
+pub mod Bytes
 pub mod Examples
 pub mod Laws
 pub mod Packing

@@ -1,16 +1,15 @@
 -- What a packer may write, and how it is read back. Each law puts one literal or one repeat in front of a row that is packed already:
 -- `row-step` reads it, and the rest stands where it stood.
-use Prim.Native.Nat.{ℕ, zero, suc, _+_, _-_, _<_, _≤_}
+use Prim.Native.Nat.{ℕ, suc, _+_, _-_, _<_, _≤_}
 use mathlib.Core.Path.{_≡_, refl, sym, ap, _∙_}
 use mathlib.Core.List.{List, [], _∷_, _++_, append-assoc}
 use lib.ListN.{length, getD, take, drop, replicate, length-append, length-replicate}
-use lib.Seq.{getD-append-seam, drop-append-add, getD-append-add, take-at}
-use borrow.Author.Tests.{lt-ltb, le-ltb, eq-eqb, ne-eqb}
+use lib.Seq.{drop-append-seam, take-append-seam, getD-append-seam, drop-append-add, getD-append-add, take-at}
+use borrow.Author.Tests.{le-leb, lt-ltb, le-ltb, ne-eqb}
 use native.Mathlib.Omega.{arith}
 use native.Mathlib.Nat.{add-zero}
-use Rattle.byterun.specs.ByteRun.{Row, filled, codeOf, prepend, onCode, unpackRow}
+use Rattle.byterun.specs.ByteRun.{Row, filled, codeOf, prepend, unpackRow, plainRow}
 use Rattle.byterun.specs.Laws.{row-none, row-step}
-use Rattle.byterun.specs.declared.Code.{Code}
 use Rattle.byterun.specs.declared.Code.the-variants.{Copy, Repeat}
 
 -- `bytes`, from any place in any BODY, unpack to the row and end where the row is full
@@ -102,3 +101,12 @@ packs-literal bs bytes row a b p = packs-piece ((length bs - 1) ∷ bs) bs bytes
 -- a repeat of 2 to 128 bytes in front
 pub packs-repeat : (b k : ℕ) (bytes row : List ℕ) → 2 ≤ k → k ≤ 128 → Packs bytes row → Packs ((257 - k) ∷ b ∷ bytes) (replicate k b ++ row)
 packs-repeat b k bytes row h m p = packs-piece ((257 - k) ∷ b ∷ []) (replicate k b) bytes row (repeat-piece b k h m) p
+
+-- a plain row, from any place in any BODY, is read as it stands
+pub plain-stands : (row pre rest : List ℕ) → plainRow (pre ++ (row ++ rest)) (length pre) (length row) ≡ filled row (length pre + length row)
+unfolding plainRow
+plain-stands row pre rest =
+    let n : length (pre ++ (row ++ rest)) ≡ length pre + (length row + length rest) = rw (length-append pre (row ++ rest), length-append row rest) in
+    let h : length row ≤ length (pre ++ (row ++ rest)) - length pre = rw n (omega arith) in
+    let e : take (length row) (drop (length pre) (pre ++ (row ++ rest))) ≡ row = rw (drop-append-seam pre (row ++ rest)) (take-append-seam row rest) in
+    simp (le-leb (length row) (length (pre ++ (row ++ rest)) - length pre) h, e)

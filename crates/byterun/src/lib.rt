@@ -1,6 +1,6 @@
 // One plane row of a BODY: plain, or packed by ByteRun1.
 ghost use mathlib.Core.Path.{_≡_};
-ghost use Prim.Native.Nat.{ℕ, _+_, _≤_, _<_};
+ghost use Prim.Native.Nat.{_+_, _≤_, _<_};
 ghost use lib.ListN.{length, drop, replicate};
 ghost use lib.Seq.{paste};
 ghost use Rattle.byterun.specs.ByteRun.{codeOf, unpackRow, plainRow, rowOf, filled, answerOf, bytesAfter, IsFull};

@@ -1,5 +1,5 @@
 -- `fill_run` meets its contract. The loop's invariant: the first k bytes are written, and dst is as long as it was; the measure is what is left of times.
-use Prim.Native.Nat.{ℕ, _+_, _-_, _≤_, _<_}
+use Prim.Native.Nat.{_-_, _≤_}
 use mathlib.Core.Path.{_≡_}
 use lib.ListN.{length, replicate}
 use lib.Seq.{paste}

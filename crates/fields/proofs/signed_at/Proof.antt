@@ -1,0 +1,25 @@
+use Rattle.fields.proofs.Laws.{same-bits}
+use mathlib.Core.Path.{_∙_, ap}
+use Rattle.ilbm.specs.Pictures.{signed}
+use borrow.Author.Needs.{needs}
+use Rattle.fields.proofs.signed_at.Statement.{statement}
+use Rattle.fields.proofs.signed_at.Tie as tie
+use Rattle.fields.proofs.signed_at.Reads as reads
+use Rattle.fields.proofs.signed_at.Lts as lts
+use Rattle.fields.proofs.signed.Reads as signed-reads
+use Rattle.fields.proofs.word_at.Reads as word-at-reads
+
+-- src/lib.rt:52:12
+word-at-requires : tie.Need-word-at-requires
+word-at-requires c κs = search needs
+
+-- src/lib.rt:52:5
+signed-requires : tie.Need-signed-requires
+signed-requires c κs = search needs
+
+-- src/lib.rt:48:1
+returns : tie.Need-returns
+returns c = same-bits _ _ (record { sfits = c .signed .ok }) (c .signed .ensures ∙ ap signed (c .before .word-at .ensures))
+
+pub signed-at-spec : {M : Type 1} → statement M
+signed-at-spec = tie.close (tie.spec word-at-requires signed-requires returns)

@@ -1,0 +1,142 @@
+-- One law for each way through the functions that look for the next piece: a turn of a loop steps over one byte of the definition.
+use Prim.Native.Nat.{ℕ, zero, suc, _+_, _-_, _<_, _≤_}
+use mathlib.Core.Path.{_≡_, refl, ap, _∙_}
+use mathlib.Core.List.{List, [], _∷_}
+use mathlib.Core.Bool.{Bool, true, false}
+use lib.ListN.{length, getD, drop, length-drop}
+use lib.Seq.{getD-drop, drop-drop}
+use lib.Dec.{eqb}
+use borrow.Author.Tests.{eq-eqb, ne-eqb}
+use native.Mathlib.Omega.{arith}
+use native.Mathlib.Nat.{add-zero}
+use Rattle.byterun.specs.ByteRun.{pick}
+use Rattle.pack.specs.Pack.{three, sameFor, plainFor, pieceOf}
+use Rattle.pack.specs.declared.Piece.the-variants.{Repeat, Literal}
+
+pub first : (row : List ℕ) (i : ℕ) → getD (drop i row) 0 0 ≡ getD row i 0
+first row i = getD-drop i row 0 0 ∙ ap (λ (k : ℕ). getD row k 0) (add-zero i)
+
+-- ---- three equal bytes
+
+few : (xs : List ℕ) → length xs < 3 → false ≡ three xs
+unfolding three
+few [] h = refl
+few (a ∷ []) h = refl
+few (a ∷ b ∷ []) h = refl
+few (a ∷ b ∷ c ∷ xs) h = absurd (omega arith)
+
+enough : (xs : List ℕ) → 3 ≤ length xs → three xs ≡ pick (eqb (getD xs 0 0) (getD xs 1 0)) (eqb (getD xs 1 0) (getD xs 2 0)) false
+unfolding three
+enough [] h = absurd (omega arith)
+enough (a ∷ []) h = absurd (omega arith)
+enough (a ∷ b ∷ []) h = absurd (omega arith)
+enough (a ∷ b ∷ c ∷ xs) h = refl
+
+module _ (row : List ℕ) (i : ℕ) where
+  pub three-few : length row - i < 3 → false ≡ three (drop i row)
+  three-few h = few (drop i row) (rw length-drop h)
+
+  seen : 3 ≤ length row - i → three (drop i row) ≡ pick (eqb (getD row i 0) (getD row (i + 1) 0)) (eqb (getD row (i + 1) 0) (getD row (i + 2) 0)) false
+  seen h = rw (first row i, getD-drop i row 1 0, getD-drop i row 2 0) at (enough (drop i row) (rw length-drop h))
+
+  pub three-same : 3 ≤ length row - i → getD row i 0 ≡ getD row (i + 1) 0 → eqb (getD row (i + 1) 0) (getD row (i + 2) 0) ≡ three (drop i row)
+  three-same h e = rw (seen h) (simp (eq-eqb (getD row i 0) (getD row (i + 1) 0) e))
+
+  pub three-other : 3 ≤ length row - i → (getD row i 0 ≡ getD row (i + 1) 0 → ⊥) → false ≡ three (drop i row)
+  three-other h e = rw (seen h) (simp (ne-eqb (getD row i 0) (getD row (i + 1) 0) e))
+
+pub ruleset threes = (three-few, three-same, three-other)
+
+-- ---- the lengths of a repeat and of a literal
+
+same-cons : (m b : ℕ) (xs : List ℕ) → 0 < length xs → sameFor (suc m) b xs ≡ pick (eqb (getD xs 0 0) b) (suc (sameFor m b (drop 1 xs))) 0
+unfolding sameFor
+same-cons m b [] h = absurd (omega arith)
+same-cons m b (x ∷ xs) h = refl
+
+same-nil : (m b : ℕ) (xs : List ℕ) → length xs ≡ 0 → sameFor m b xs ≡ 0
+unfolding sameFor
+same-nil zero b xs h = refl
+same-nil (suc m) b [] h = refl
+same-nil (suc m) b (x ∷ xs) h = absurd (omega arith)
+
+same-zero : (b : ℕ) (xs : List ℕ) → sameFor 0 b xs ≡ 0
+unfolding sameFor
+same-zero b xs = refl
+
+plain-cons : (m : ℕ) (xs : List ℕ) → 0 < length xs → plainFor (suc m) xs ≡ pick (three xs) 0 (suc (plainFor m (drop 1 xs)))
+unfolding plainFor
+plain-cons m [] h = absurd (omega arith)
+plain-cons m (x ∷ xs) h = refl
+
+plain-nil : (m : ℕ) (xs : List ℕ) → length xs ≡ 0 → plainFor m xs ≡ 0
+unfolding plainFor
+plain-nil zero xs h = refl
+plain-nil (suc m) [] h = refl
+plain-nil (suc m) (x ∷ xs) h = absurd (omega arith)
+
+plain-zero : (xs : List ℕ) → plainFor 0 xs ≡ 0
+unfolding plainFor
+plain-zero xs = refl
+
+module _ (row : List ℕ) (i k : ℕ) where
+  one-more : drop 1 (drop (i + k) row) ≡ drop (i + (k + 1)) row
+  one-more = let e : i + k + 1 ≡ i + (k + 1) = omega arith in drop-drop 1 (i + k) row ∙ ap (λ (n : ℕ). drop n row) e
+
+  pub same-starts : (b : ℕ) → 0 + sameFor (128 - 0) b (drop (i + 0) row) ≡ sameFor 128 b (drop i row)
+  same-starts b = let e : 0 + sameFor 128 b (drop i row) ≡ sameFor 128 b (drop i row) = omega arith in rw (add-zero i) e
+
+  pub plain-starts : 0 + plainFor (128 - 0) (drop (i + 0) row) ≡ plainFor 128 (drop i row)
+  plain-starts = let e : 0 + plainFor 128 (drop i row) ≡ plainFor 128 (drop i row) = omega arith in rw (add-zero i) e
+
+  module _ (b v : ℕ) (u : k + sameFor (128 - k) b (drop (i + k) row) ≡ v) where
+    pub same-out : length row - i ≤ k → k ≡ v
+    same-out h = let z = same-nil (128 - k) b (drop (i + k) row) (rw length-drop (omega arith)) in omega arith
+
+    pub same-full : 128 ≤ k → k ≤ 128 → k ≡ v
+    same-full g h = let e : 128 - k ≡ 0 = omega arith in let z = rw (e, same-zero b (drop (i + k) row)) at u in omega arith
+
+    stepped : k < 128 → k < length row - i → sameFor (128 - k) b (drop (i + k) row) ≡ pick (eqb (getD row (i + k) 0) b) (suc (sameFor (128 - (k + 1)) b (drop (i + (k + 1)) row))) 0
+    stepped g h =
+        let e : 128 - k ≡ suc (128 - (k + 1)) = omega arith in
+        rw (e, same-cons (128 - (k + 1)) b (drop (i + k) row) (rw length-drop (omega arith)), first row (i + k), one-more)
+
+    pub same-stop : k < 128 → k < length row - i → (getD row (i + k) 0 ≡ b → ⊥) → k ≡ v
+    same-stop g h e = let z = simp (ne-eqb (getD row (i + k) 0) b e) at (stepped g h) in omega arith
+
+    pub same-more : k < 128 → k < length row - i → getD row (i + k) 0 ≡ b → (k + 1) + sameFor (128 - (k + 1)) b (drop (i + (k + 1)) row) ≡ v
+    same-more g h e = let z = simp (eq-eqb (getD row (i + k) 0) b e) at (stepped g h) in omega arith
+
+  module _ (v : ℕ) (u : k + plainFor (128 - k) (drop (i + k) row) ≡ v) where
+    pub plain-out : length row - i ≤ k → k ≡ v
+    plain-out h = let z = plain-nil (128 - k) (drop (i + k) row) (rw length-drop (omega arith)) in omega arith
+
+    pub plain-full : 128 ≤ k → k ≤ 128 → k ≡ v
+    plain-full g h = let e : 128 - k ≡ 0 = omega arith in let z = rw (e, plain-zero (drop (i + k) row)) at u in omega arith
+
+    passed : k < 128 → k < length row - i → plainFor (128 - k) (drop (i + k) row) ≡ pick (three (drop (i + k) row)) 0 (suc (plainFor (128 - (k + 1)) (drop (i + (k + 1)) row)))
+    passed g h =
+        let e : 128 - k ≡ suc (128 - (k + 1)) = omega arith in
+        rw (e, plain-cons (128 - (k + 1)) (drop (i + k) row) (rw length-drop (omega arith)), one-more)
+
+    module _ (t : Bool) (is : t ≡ three (drop (i + k) row)) where
+      pub plain-stop : k < 128 → k < length row - i → t ≡ true → k ≡ v
+      plain-stop g h e = let z = simp (← is, e) at (passed g h) in omega arith
+
+      pub plain-more : k < 128 → k < length row - i → t ≡ false → (k + 1) + plainFor (128 - (k + 1)) (drop (i + (k + 1)) row) ≡ v
+      plain-more g h e = let z = simp (← is, e) at (passed g h) in omega arith
+
+pub ruleset lengths = (same-starts, same-out, same-full, same-stop, same-more, plain-starts, plain-out, plain-full, plain-stop, plain-more)
+
+-- ---- the piece
+
+module _ (row : List ℕ) (i k : ℕ) (t : Bool) (is : t ≡ three (drop i row)) where
+  pub piece-repeat : t ≡ true → k ≡ sameFor 128 (getD row i 0) (drop i row) → Repeat k ≡ pieceOf (drop i row)
+  unfolding pieceOf
+  piece-repeat e n = rw n (simp (← is, e, first row i))
+
+  pub piece-literal : t ≡ false → k ≡ plainFor 128 (drop i row) → Literal k ≡ pieceOf (drop i row)
+  unfolding pieceOf
+  piece-literal e n = rw n (simp (← is, e))
+
+pub ruleset pieces = (piece-repeat, piece-literal)

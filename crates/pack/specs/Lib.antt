@@ -1,0 +1,5 @@
+pub mod Bytes
+pub mod Examples
+pub mod Laws
+pub mod Pack
+pub mod Written

@@ -1,0 +1,167 @@
+// The packer of one row by ByteRun1: the length is settled before a byte is written.
+ghost use mathlib.Core.Path.{_≡_};
+ghost use Prim.Native.Nat.{_+_, _-_, _≤_, _<_};
+ghost use mathlib.Core.List.{_∷_, [], _++_};
+ghost use lib.ListN.{length, take, drop};
+ghost use lib.Seq.{paste};
+ghost use Rattle.pack.specs.Pack.{three, sameFor, plainFor, pieceOf, packed, packOf, outAfter};
+
+// The length of the packed row; a row of no bytes or of more than 8,192; a result longer than the buffer.
+pub enum PackAnswer {
+    Written(usize),
+    BadLength,
+    NoRoom,
+}
+
+// What stands at the left of a row: a repeat of so many bytes, or a literal of so many.
+pub enum Piece {
+    Repeat(usize),
+    Literal(usize),
+}
+
+// Whether three equal bytes stand at i.
+fn three_at(row: &[u8], i: usize) -> bool
+    requires { ⌜ i ≤ length (now row) ⌝ }
+    ensures { λ r. ⌜ r ≡ three (drop i (now (row .entry))) ⌝ }
+{
+    if row.len() - i < 3 {
+        return false;
+    }
+    if row[i] == row[i + 1] {
+        return row[i + 1] == row[i + 2];
+    }
+    false
+}
+
+// How many bytes b stand at i, at most 128.
+fn same_at(row: &[u8], i: usize, b: u8) -> usize
+    requires { ⌜ i ≤ length (now row) ⌝ }
+    ensures { λ r. ⌜ r ≡ sameFor 128 b (drop i (now (row .entry))) ⌝ }
+{
+    let mut k = 0;
+    while k < 128 {
+        if row.len() - i <= k {
+            return k;
+        }
+        if row[i + k] != b {
+            return k;
+        }
+        k += 1;
+    }
+    k
+}
+
+// How many bytes from i on stand before three equal ones, at most 128.
+fn plain_at(row: &[u8], i: usize) -> usize
+    requires { ⌜ i ≤ length (now row) ⌝ }
+    ensures { λ r. ⌜ r ≡ plainFor 128 (drop i (now (row .entry))) ⌝ }
+{
+    let mut n = 0;
+    while n < 128 {
+        if row.len() - i <= n {
+            return n;
+        }
+        if three_at(row, i + n) {
+            return n;
+        }
+        n += 1;
+    }
+    n
+}
+
+// The piece that stands at i: a repeat where three equal bytes start, else a literal.
+fn piece_at(row: &[u8], i: usize) -> Piece
+    requires { ⌜ i < length (now row) ⌝ }
+    ensures { λ r. ⌜ r ≡ pieceOf (drop i (now (row .entry))) ⌝ }
+{
+    if three_at(row, i) {
+        return Piece::Repeat(same_at(row, i, row[i]));
+    }
+    Piece::Literal(plain_at(row, i))
+}
+
+// The length of the packed row.
+pub fn packed_len(row: &[u8]) -> usize
+    ensures { λ r. ⌜ r ≡ length (packed (now (row .entry))) ⌝ }
+{
+    let mut i = 0;
+    let mut total = 0;
+    while i < row.len() {
+        let piece = piece_at(row, i);
+        match piece {
+            Piece::Repeat(count) => {
+                i = i + count;
+                total = total + 2;
+            }
+            Piece::Literal(count) => {
+                i = i + count;
+                total = total + 1 + count;
+            }
+        }
+    }
+    total
+}
+
+// Writes the code and the byte of a repeat.
+fn put_repeat(out: &mut [u8], at: usize, count: usize, b: u8)
+    requires { ⌜ (2 ≤ count) × (count ≤ 128) × (at + 2 ≤ length (now out)) ⌝ }
+    ensures { λ _. ⌜ now (out .exit) ≡ paste (now (out .entry)) at ((257 - count) ∷ b ∷ []) 2 ⌝ }
+{
+    let code = (257 - count) as u8;
+    out[at] = code;
+    out[at + 1] = b;
+}
+
+// Writes the code of a literal, and its bytes from the row.
+fn put_literal(out: &mut [u8], at: usize, row: &[u8], i: usize, count: usize)
+    requires { ⌜ (1 ≤ count) × (count ≤ 128) × (i + count ≤ length (now row)) × (at + 1 + count ≤ length (now out)) ⌝ }
+    ensures { λ _. ⌜ now (out .exit) ≡ paste (now (out .entry)) at ((count - 1) ∷ take count (drop i (now (row .entry)))) (1 + count) ⌝ }
+{
+    let code = (count - 1) as u8;
+    out[at] = code;
+    byterun::copy_run(row, i, out, at + 1, count);
+}
+
+// Writes the packed row, which fits, to the start of out.
+pub fn pack_into(row: &[u8], out: &mut [u8])
+    requires { ⌜ length (packed (now row)) ≤ length (now out) ⌝ }
+    ensures { λ _. ⌜ now (out .exit) ≡ packed (now (row .entry)) ++ drop (length (packed (now (row .entry)))) (now (out .entry)) ⌝ }
+{
+    let mut from = 0;
+    let mut at = 0;
+    while from < row.len() {
+        let piece = piece_at(row, from);
+        match piece {
+            Piece::Repeat(count) => {
+                put_repeat(out, at, count, row[from]);
+                from = from + count;
+                at = at + 2;
+            }
+            Piece::Literal(count) => {
+                put_literal(out, at, row, from, count);
+                from = from + count;
+                at = at + 1 + count;
+            }
+        }
+    }
+}
+
+// Packs a row of 1 to 8,192 bytes into out; bytes after the result stay, and a refusal changes nothing.
+pub fn pack_row(row: &[u8], out: &mut [u8]) -> PackAnswer
+    ensures is { λ r. ⌜ r ≡ packOf (now (row .entry)) (length (now (out .entry))) ⌝ }
+    ensures bytes { λ _. ⌜ now (out .exit) ≡ outAfter (packOf (now (row .entry)) (length (now (out .entry)))) (now (row .entry)) (now (out .entry)) ⌝ }
+{
+    let n = row.len();
+    if n == 0 {
+        return PackAnswer::BadLength;
+    }
+    if 8192 < n {
+        return PackAnswer::BadLength;
+    }
+    let need = packed_len(row);
+    if out.len() < need {
+        return PackAnswer::NoRoom;
+    }
+    pack_into(row, out);
+    PackAnswer::Written(need)
+}
