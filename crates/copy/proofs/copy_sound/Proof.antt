@@ -1,0 +1,24 @@
+-- A buffer that is too short is refused before a byte is written; else the first bytes are copied, and a copy with its pads made zero is the result.
+use Rattle.copy.proofs.Laws.{sound-laws}
+use borrow.Author.Needs.{needs}
+use Rattle.copy.proofs.copy_sound.Statement.{statement}
+use Rattle.copy.proofs.copy_sound.Tie as tie
+
+returns : tie.Need-returns
+returns c = search (sound-laws, needs)
+
+copy-bytes-requires : tie.Need-copy-bytes-requires
+copy-bytes-requires c κs = search needs
+
+zero-pads-requires : tie.Need-zero-pads-requires
+zero-pads-requires c κs = search (sound-laws, needs)
+
+same-length : tie.Need-same-length
+same-length c = search needs
+
+returns-2 : tie.Need-returns-2
+returns-2 c = search (sound-laws, needs)
+
+pub copy-sound-spec : {M : Type 1} → statement M
+copy-sound-spec =
+    tie.close (tie.spec returns copy-bytes-requires zero-pads-requires same-length returns-2)
