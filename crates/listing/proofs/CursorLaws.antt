@@ -1,0 +1,124 @@
+-- One law for each way through a cursor's functions, with the facts in the form in which the code's needs have them.
+use Prim.Native.Nat.{ℕ, zero, suc, _+_, _-_, _*_, _/_, _%_, _≤_, _<_}
+use mathlib.Core.Path.{_≡_, sym, ap, _∙_}
+use mathlib.Core.Bool.{Bool, true, false}
+use mathlib.Core.List.{List}
+use native.Mathlib.Omega.{arith}
+use lib.ListN.{length, getD, set}
+use borrow.Author.Tests.{eq-eqb, ne-eqb}
+use Rattle.name.specs.Name.{kindOf}
+use Rattle.name.specs.declared.Kind.{Kind}
+use Rattle.name.specs.declared.Name.{Name}
+use Rattle.tree.specs.Chunks.{word}
+use Rattle.tree.specs.Rules.{isGroup}
+use Rattle.listing.specs.declared.Cursor.{Cursor}
+use Rattle.listing.specs.declared.Listed.the-variants.{Chunk as Listed-chunk}
+use Rattle.listing.specs.Records.{recordOf}
+use Rattle.listing.specs.Cursors.{countOf, nameAt, openLevel, entered, passed, Enterable, Passable, Located}
+use Rattle.listing.specs.Walk.{located-record, located-header, located-type, located-enterable, located-enter, located-passable, located-pass}
+
+-- groups that end at a place
+
+pub open-more : (ends : List ℕ) (p l v : ℕ) → 1 < l → getD ends (l - 2) 0 ≡ p → openLevel ends p l ≡ v → openLevel ends p (l - 1) ≡ v
+unfolding openLevel
+open-more ends p zero v h e u = absurd (omega arith)
+open-more ends p (suc zero) v h e u = absurd (omega arith)
+open-more ends p (suc (suc l)) v h e u =
+    let i : suc (suc l) - 2 ≡ l = omega arith in
+    let j : suc (suc l) - 1 ≡ suc l = omega arith in
+    rw j (simp (eq-eqb (getD ends l 0) p (rw i at e)) at u)
+
+pub open-stop : (ends : List ℕ) (p l v : ℕ) → 1 < l → (getD ends (l - 2) 0 ≡ p → ⊥) → openLevel ends p l ≡ v → l ≡ v
+unfolding openLevel
+open-stop ends p zero v h e u = absurd (omega arith)
+open-stop ends p (suc zero) v h e u = absurd (omega arith)
+open-stop ends p (suc (suc l)) v h e u =
+    let i : suc (suc l) - 2 ≡ l = omega arith in
+    simp (ne-eqb (getD ends l 0) p (rw i at e)) at u
+
+pub open-end : (ends : List ℕ) (p l v : ℕ) → l ≤ 1 → openLevel ends p l ≡ v → l ≡ v
+unfolding openLevel
+open-end ends p zero v h u = u
+open-end ends p (suc zero) v h u = u
+open-end ends p (suc (suc l)) v h u = absurd (omega arith)
+
+-- the record at a cursor
+
+name-is : (m : Name) (n : ℕ) → m .code ≡ n → m ≡ record { code = n }
+name-is m n e = ap (λ (k : ℕ). record { code = k }) e
+
+module _ (s : List ℕ) (cur : Cursor) (at : Located s cur) (more : cur .number < countOf s) where
+  pub named : cur .place + 4 ≤ length s
+  named = omega (arith, located-header s cur at more)
+
+  pub sized : cur .place + 4 + 4 ≤ length s
+  sized = omega (arith, located-header s cur at more)
+
+  module _
+      (n : ℕ) (a : n ≡ word s (cur .place)) (z : ℕ) (b : z ≡ word s (cur .place + 4)) (k : Kind) (d : k ≡ kindOf n) (g : Bool) (e : g ≡ isGroup k)
+    where
+      here : (x : Bool) → g ≡ x → isGroup (kindOf (word s (cur .place))) ≡ x
+      here x i = rw (← a, ← d, ← e) i
+
+      told :
+          (m : Name) → m .code ≡ nameAt s (cur .place) →
+          Listed-chunk (record { number = cur .number; level = cur .level; kind = k; name = m; place = cur .place; size = z }) ≡ recordOf s (cur .number)
+      told m f =
+          let name : m ≡ record { code = nameAt s (cur .place) } = name-is m _ f in
+          let kind : k ≡ kindOf (word s (cur .place)) = d ∙ ap kindOf a in
+          cc (located-record s cur at more)
+
+      pub typed : g ≡ true → cur .place + 8 + 4 ≤ length s
+      typed i = omega (arith, located-type s cur at more (here true i))
+
+      pub group-told :
+          g ≡ true → (m : Name) → m .code ≡ word s (cur .place + 8) →
+          Listed-chunk (record { number = cur .number; level = cur .level; kind = k; name = m; place = cur .place; size = z }) ≡ recordOf s (cur .number)
+      group-told i m f = told m (rw (here true i) f)
+
+      pub leaf-told :
+          g ≡ false → (m : Name) → n ≡ m .code →
+          Listed-chunk (record { number = cur .number; level = cur .level; kind = k; name = m; place = cur .place; size = z }) ≡ recordOf s (cur .number)
+      leaf-told i m f = told m (rw (here false i) (sym f ∙ a))
+
+      -- where the cursor goes
+
+      pub enters : g ≡ true → Enterable cur z
+      enters i = rw b (located-enterable s cur at more (here true i))
+
+      pub enter-located : g ≡ true → (r : Cursor) → r ≡ entered cur z → Located s r
+      enter-located i r f = rw (f, b) (located-enter s cur at more (here true i))
+
+      pub passes : g ≡ false → Passable cur z
+      passes i = rw b (located-passable s cur at more (here false i))
+
+      pub pass-located : g ≡ false → (r : Cursor) → r ≡ passed cur z → Located s r
+      pass-located i r f = rw (f, b) (located-pass s cur at more (here false i))
+
+pub enter-number : (r cur : Cursor) (z : ℕ) → r ≡ entered cur z → r .number ≡ cur .number + 1
+enter-number r cur z e = rw e
+
+pub pass-number : (r cur : Cursor) (z : ℕ) → r ≡ passed cur z → r .number ≡ cur .number + 1
+pass-number r cur z e = rw e
+
+padded : (p z : ℕ) → p + 8 + (z + 1) / 2 * 2 ≡ p + 8 + z + z % 2
+padded p z = omega arith
+
+-- the level is the open one
+
+module _ (cur : Cursor) (z l : ℕ) where
+  pub enter-told :
+      l ≡ openLevel (set (cur .ends) (cur .level - 1) (cur .place + 8 + z)) (cur .place + 12) (cur .level + 1) →
+      record { place = cur .place + 12; number = cur .number + 1; level = l; ends = set (cur .ends) (cur .level - 1) (cur .place + 8 + z) } ≡ entered cur z
+  enter-told e = cc
+
+  pub pass-told :
+      l ≡ openLevel (cur .ends) (cur .place + 8 + (z + 1) / 2 * 2) (cur .level) →
+      record { place = cur .place + 8 + (z + 1) / 2 * 2; number = cur .number + 1; level = l; ends = cur .ends } ≡ passed cur z
+  pass-told e = rw (e, padded (cur .place) z)
+
+pub ruleset open-laws = (open-more, open-stop, open-end)
+
+pub ruleset at-laws = (named, sized, typed, group-told, leaf-told)
+
+pub ruleset move-laws = (named, sized, enters, enter-located, passes, pass-located, enter-number, pass-number, enter-told, pass-told)

@@ -1,0 +1,223 @@
+// The listing of a file's chunks: one record by its number, and the data of one chunk.
+use name::Kind;
+use name::Name;
+use tree::Verdict;
+ghost use mathlib.Core.Path.{_≡_};
+ghost use Prim.Native.Nat.{_+_, _≤_, _<_};
+ghost use Rattle.listing.specs.Records.{recordOf};
+ghost use Rattle.listing.specs.Contents.{extentIn, extentOf, dataOf};
+ghost use Rattle.listing.specs.Cursors.{countOf, firstCursor, openLevel, entered, passed, Enterable, Passable, Located};
+
+// One chunk of a file. A group is told by its type, any other chunk by its name; the size leaves out the pad.
+pub struct Record {
+    pub number: usize,
+    pub level: usize,
+    pub kind: Kind,
+    pub name: Name,
+    pub place: usize,
+    pub size: usize,
+}
+
+// The record that was asked for, or the number and place of a refusal.
+pub enum Listed {
+    Chunk(Record),
+    Refused { number: usize, place: usize },
+}
+
+// Where a chunk's data lies in the file, or the number and place of a refusal.
+pub enum Extent {
+    Data { from: usize, to: usize },
+    Refused { number: usize, place: usize },
+}
+
+// A place in an accepted file: the next chunk's place, number and level, and where each group around it ends, the outermost first.
+pub struct Cursor {
+    pub place: usize,
+    pub number: usize,
+    pub level: usize,
+    pub ends: [usize; 16],
+}
+
+// The cursor at the outermost chunk.
+pub fn first() -> Cursor
+    ensures { λ r. ⌜ r ≡ firstCursor ⌝ }
+{
+    Cursor {
+        place: 0,
+        number: 0,
+        level: 1,
+        ends: [0usize; 16],
+    }
+}
+
+// The level at a place, after the groups that end there are closed.
+fn open_level(ends: &[usize; 16], place: usize, level: usize) -> usize
+    requires { ⌜ level ≤ 17 ⌝ }
+    ensures { λ r. ⌜ r ≡ openLevel (now (ends .entry)) place level ⌝ }
+{
+    let mut l = level;
+    while 1 < l {
+        if ends[l - 2] != place {
+            return l;
+        }
+        l = l - 1;
+    }
+    l
+}
+
+// The record of the chunk at the cursor.
+pub fn record_at(s: &[u8], cur: Cursor) -> Record
+    requires { ⌜ (Located (now s) cur) × (cur .number < countOf (now s)) ⌝ }
+    ensures { λ r. ⌜ Listed.Chunk r ≡ recordOf (now (s .entry)) (cur .number) ⌝ }
+{
+    let p = cur.place;
+    let n = tree::name_at(s, p);
+    let size = tree::size_at(s, p + 4);
+    let kind = n.kind();
+    if tree::is_group(kind) {
+        return Record {
+            number: cur.number,
+            level: cur.level,
+            kind,
+            name: tree::name_at(s, p + 8),
+            place: p,
+            size,
+        };
+    }
+    Record {
+        number: cur.number,
+        level: cur.level,
+        kind,
+        name: n,
+        place: p,
+        size,
+    }
+}
+
+// The cursor at the first member of the group at it, whose size is z, or behind the group.
+fn enter(cur: Cursor, z: usize) -> Cursor
+    requires { ⌜ Enterable cur z ⌝ }
+    ensures { λ r. ⌜ r ≡ entered cur z ⌝ }
+{
+    let place = cur.place;
+    let level = cur.level;
+    let mut ends = cur.ends;
+    ends[level - 1] = place + 8 + z;
+    let next = place + 12;
+    let open = open_level(&ends, next, level + 1);
+    Cursor {
+        place: next,
+        number: cur.number + 1,
+        level: open,
+        ends,
+    }
+}
+
+// The cursor behind the chunk at it, which is no group and has z bytes of data.
+fn pass(cur: Cursor, z: usize) -> Cursor
+    requires { ⌜ Passable cur z ⌝ }
+    ensures { λ r. ⌜ r ≡ passed cur z ⌝ }
+{
+    let ends = cur.ends;
+    let next = cur.place + 8 + (z + 1) / 2 * 2;
+    let open = open_level(&ends, next, cur.level);
+    Cursor {
+        place: next,
+        number: cur.number + 1,
+        level: open,
+        ends,
+    }
+}
+
+// The cursor at the next chunk: a group's first member, or what stands behind the chunk.
+pub fn advance(s: &[u8], cur: Cursor) -> Cursor
+    requires { ⌜ (Located (now s) cur) × (cur .number < countOf (now s)) ⌝ }
+    ensures { λ r. ⌜ (Located (now (s .entry)) r) × (r .number ≡ cur .number + 1) ⌝ }
+{
+    let p = cur.place;
+    let n = tree::name_at(s, p);
+    let z = tree::size_at(s, p + 4);
+    if tree::is_group(n.kind()) {
+        return enter(cur, z);
+    }
+    pass(cur, z)
+}
+
+// The record of a number below the count, in a file that is accepted.
+fn nth(s: &[u8], number: usize) -> Record
+    requires { ⌜ (Located (now s) firstCursor) × (number < countOf (now s)) ⌝ }
+    ensures { λ r. ⌜ Listed.Chunk r ≡ recordOf (now (s .entry)) number ⌝ }
+{
+    let mut cur = first();
+    while cur.number < number {
+        cur = advance(s, cur);
+    }
+    record_at(s, cur)
+}
+
+// The record of a number; 14 if there is none.
+pub fn record_by_number(s: &[u8], number: usize) -> Listed
+    ensures { λ r. ⌜ r ≡ recordOf (now (s .entry)) number ⌝ }
+{
+    let v = tree::check(s);
+    match v {
+        Verdict::Accepted {
+            chunks,
+            end: _,
+            trailing: _,
+        } => {
+            if number < chunks {
+                return Listed::Chunk(nth(s, number));
+            }
+            Listed::Refused {
+                number: 14,
+                place: 0,
+            }
+        }
+        Verdict::Refused { number, place } => Listed::Refused { number, place },
+    }
+}
+
+// Where the data of the chunk of a record lies; 15 for a group.
+fn extent_in(r: Record) -> Extent
+    requires { ⌜ r .place + 8 + r .size ≤ 16777216 ⌝ }
+    ensures { λ x. ⌜ x ≡ extentIn (Listed.Chunk r) ⌝ }
+{
+    let kind = r.kind;
+    if tree::is_group(kind) {
+        return Extent::Refused {
+            number: 15,
+            place: 0,
+        };
+    }
+    let from = r.place + 8;
+    Extent::Data {
+        from,
+        to: from + r.size,
+    }
+}
+
+// Where the data of the chunk of a number lies in the file; 14 if there is no such record, 15 for a group.
+pub fn data_extent(s: &[u8], number: usize) -> Extent
+    ensures { λ r. ⌜ r ≡ extentOf (now (s .entry)) number ⌝ }
+{
+    let l = record_by_number(s, number);
+    match l {
+        Listed::Chunk(r) => extent_in(r),
+        Listed::Refused { number, place } => Extent::Refused { number, place },
+    }
+}
+
+// The data of the chunk of a number, as a part of the file; an empty part with any refusal.
+pub fn data(s: &[u8], number: usize) -> &[u8]
+    ensures { λ r. ⌜ now r ≡ dataOf (now (s .entry)) number ⌝ }
+{
+    let x = data_extent(s, number);
+    match x {
+        Extent::Data { from, to } => &s[from..to],
+        Extent::Refused {
+            number: _,
+            place: _,
+        } => &s[0..0],
+    }
+}
