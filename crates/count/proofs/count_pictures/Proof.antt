@@ -1,0 +1,42 @@
+use mathlib.Core.Path.{sym, _∙_}
+use native.Mathlib.Omega.{arith}
+use Rattle.flat.specs.Coming.{accepted-sound}
+use Rattle.count.proofs.Laws.{count-refused}
+use borrow.Author.Needs.{needs}
+use Rattle.count.proofs.count_pictures.Statement.{statement}
+use Rattle.count.proofs.count_pictures.Tie as tie
+use Rattle.count.proofs.count_pictures.Reads as reads
+use Rattle.count.proofs.count_pictures.Lts as lts
+use Rattle.count.proofs.count_sound.Reads as count-sound-reads
+use Rattle.tree.proofs.check.Reads as check-reads
+
+-- src/lib.rt:65:9
+check-requires : tie.Need-check-requires
+check-requires c κs = search needs
+
+-- src/lib.rt:69:13
+enum-known-v : tie.Need-enum-known-v
+enum-known-v c = search needs
+
+-- src/lib.rt:71:32
+count-sound-requires : tie.Need-count-sound-requires
+count-sound-requires c κs =
+    accepted-sound _ (λ i. omega (arith, c .before .before .before .before .shared-slice-known .given i)) _ _ _
+    (sym (c .before .before .before .check .ensures) ∙ c .before .v .given .1)
+
+-- src/lib.rt:72:28
+enum-known-v-2 : tie.Need-enum-known-v-2
+enum-known-v-2 c = search needs
+
+-- src/lib.rt:62:1
+returns : tie.Need-returns
+returns c = search needs
+
+-- src/lib.rt:62:1
+returns-2 : tie.Need-returns-2
+returns-2 c = search (count-refused, needs)
+
+pub count-pictures-spec : {M : Type 1} → statement M
+count-pictures-spec =
+    tie.close
+    (tie.spec check-requires enum-known-v count-sound-requires enum-known-v-2 returns returns-2)

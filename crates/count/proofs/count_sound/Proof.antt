@@ -1,0 +1,57 @@
+use Prim.Native.Nat.{ℕ, _-_, _≤_}
+use borrow.Author.Needs.{needs}
+use Rattle.count.proofs.Laws.{Tally, tally-laws}
+use Rattle.count.proofs.count_sound.Statement.{statement}
+use Rattle.count.proofs.count_sound.Tie as tie
+use Rattle.count.proofs.count_sound.Reads as reads
+use Rattle.count.proofs.count_sound.Lts as lts
+use Rattle.count.proofs.form_at.Reads as form-at-reads
+use Rattle.count.proofs.next_chunk.Reads as next-chunk-reads
+
+abbrev Inv-loop : tie.InvT-loop
+Inv-loop s end p₀ n₀ p n = (n ≤ p) × Tally s end p n
+
+abbrev μ-loop : tie.MeasureT-loop
+μ-loop s end p₀ n₀ p n = end - p
+
+-- src/lib.rt:54:5
+loop-holds : tie.Need-loop-holds Inv-loop μ-loop
+loop-holds c = search (tally-laws, needs)
+
+-- src/lib.rt:55:17
+form-at-requires : tie.Need-form-at-requires Inv-loop μ-loop
+form-at-requires c κs = search (tally-laws, needs)
+
+-- src/lib.rt:55:13
+add-n : tie.Need-add-n Inv-loop μ-loop
+add-n c = search (tally-laws, needs)
+
+-- src/lib.rt:56:9
+next-chunk-requires : tie.Need-next-chunk-requires Inv-loop μ-loop
+next-chunk-requires c κs = search (tally-laws, needs)
+
+-- src/lib.rt:54:5
+loop-less : tie.Need-loop-less Inv-loop μ-loop
+loop-less c = search (tally-laws, needs)
+
+-- src/lib.rt:54:5
+loop-again : tie.Need-loop-again Inv-loop μ-loop
+loop-again c = search (tally-laws, needs)
+
+-- src/lib.rt:48:1
+returns : tie.Need-returns Inv-loop μ-loop
+returns c = search (tally-laws, needs)
+
+pub count-sound-spec : {M : Type 1} → statement M
+count-sound-spec =
+    tie.close
+    (tie.spec
+    Inv-loop
+    μ-loop
+    loop-holds
+    form-at-requires
+    add-n
+    next-chunk-requires
+    loop-less
+    loop-again
+    returns)
