@@ -1,25 +1,74 @@
--- The numbers that 01 tells for each answer: 0 for acceptance or the refusal's number, its place, and the values;
+-- The numbers that 01 tells for each answer: 0 or the refusal's number, its place, and the values;
 -- "any other number told beside it is 0".
 use Prim.Native.Nat.{ℕ}
+use Rattle.name.specs.declared.Kind.{Kind}
+use Rattle.name.specs.declared.Kind.the-variants.{FORM, LIST, CAT, PROP, FILLER, LOCAL}
 use Rattle.tree.specs.declared.Verdict.{Verdict}
 use Rattle.tree.specs.declared.Verdict.the-variants.{Accepted, Refused}
+use Rattle.listing.specs.declared.Listed.{Listed}
+use Rattle.listing.specs.declared.Listed.the-variants.{Chunk as Listed-chunk, Refused as Listed-refused}
+use Rattle.listing.specs.declared.Extent.{Extent}
+use Rattle.listing.specs.declared.Extent.the-variants.{Data, Refused as Extent-refused}
+use Rattle.copy.specs.declared.Copied.{Copied}
+use Rattle.copy.specs.declared.Copied.the-variants.{Written, Refused as Copied-refused}
+use Rattle.count.specs.declared.Counted.{Counted}
+use Rattle.count.specs.declared.Counted.the-variants.{Pictures, Refused as Counted-refused}
 
-unfoldable pub numberOf : Verdict → ℕ
-numberOf (Accepted c e t) = 0
-numberOf (Refused k p) = k
+-- what a call tells beside its number
+pub record CheckTold : Type 0 where
+  pub number : ℕ
+  pub place : ℕ
+  pub chunks : ℕ
+  pub end : ℕ
+  pub trailing : ℕ
 
-unfoldable pub placeOf : Verdict → ℕ
-placeOf (Accepted c e t) = 0
-placeOf (Refused k p) = p
+unfoldable pub checkTold : Verdict → CheckTold
+checkTold (Accepted c e t) = record { number = 0; place = 0; chunks = c; end = e; trailing = t }
+checkTold (Refused k p) = record { number = k; place = p; chunks = 0; end = 0; trailing = 0 }
 
-unfoldable pub chunksOf : Verdict → ℕ
-chunksOf (Accepted c e t) = c
-chunksOf (Refused k p) = 0
+-- the kinds of a listing: FORM 1, LIST 2, CAT 3, PROP 4, local 5, filler 6
+abbrev pub kindNumber : Kind → ℕ
+kindNumber FORM = 1
+kindNumber LIST = 2
+kindNumber CAT = 3
+kindNumber PROP = 4
+kindNumber LOCAL = 5
+kindNumber FILLER = 6
 
-unfoldable pub endOf : Verdict → ℕ
-endOf (Accepted c e t) = e
-endOf (Refused k p) = 0
+pub record RecordTold : Type 0 where
+  pub number : ℕ
+  pub place : ℕ
+  pub level : ℕ
+  pub kind : ℕ
+  pub name : ℕ
+  pub at : ℕ
+  pub size : ℕ
 
-unfoldable pub trailingOf : Verdict → ℕ
-trailingOf (Accepted c e t) = t
-trailingOf (Refused k p) = 0
+unfoldable pub recordTold : Listed → RecordTold
+recordTold (Listed-chunk r) =
+    record { number = 0; place = 0; level = r .level; kind = kindNumber (r .kind); name = r .name .code; at = r .place; size = r .size }
+recordTold (Listed-refused k p) = record { number = k; place = p; level = 0; kind = 0; name = 0; at = 0; size = 0 }
+
+pub record DataTold : Type 0 where
+  pub number : ℕ
+  pub place : ℕ
+  pub from : ℕ
+  pub to : ℕ
+
+unfoldable pub dataTold : Extent → DataTold
+dataTold (Data a b) = record { number = 0; place = 0; from = a; to = b }
+dataTold (Extent-refused k p) = record { number = k; place = p; from = 0; to = 0 }
+
+-- a call that tells one value
+pub record OneTold : Type 0 where
+  pub number : ℕ
+  pub place : ℕ
+  pub value : ℕ
+
+unfoldable pub copyTold : Copied → OneTold
+copyTold (Written n) = record { number = 0; place = 0; value = n }
+copyTold (Copied-refused k p) = record { number = k; place = p; value = 0 }
+
+unfoldable pub countTold : Counted → OneTold
+countTold (Pictures n) = record { number = 0; place = 0; value = n }
+countTold (Counted-refused k p) = record { number = k; place = p; value = 0 }
