@@ -1,0 +1,32 @@
+//! The chunk trees of EA IFF 85, judged by a proved library.
+//!
+//! Every function takes any bytes and ends. It answers, or refuses with a
+//! number and a place; a refusal changes no buffer.
+//!
+//! ```
+//! let file = b"FORM\0\0\0\x04ILBM";
+//! let accepted = florinhado::check(file)?;
+//! assert_eq!((accepted.chunks, accepted.end, accepted.trailing), (1, 12, 0));
+//!
+//! let refused = florinhado::check(&file[..11]).unwrap_err();
+//! assert_eq!((refused.number, refused.place), (7, 0));
+//! println!("{refused}");
+//! # Ok::<(), florinhado::Refused>(())
+//! ```
+
+#![deny(missing_docs, unsafe_code)]
+
+mod answer;
+pub mod calls;
+mod check;
+mod copy;
+mod data;
+mod pictures;
+mod record;
+
+pub use answer::Refused;
+pub use check::{check, Accepted};
+pub use copy::clean_copy;
+pub use data::data;
+pub use pictures::count_pictures;
+pub use record::{record, Kind, Record};

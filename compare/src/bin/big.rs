@@ -1,0 +1,114 @@
+//! `big [PROPS]`: the largest and deepest files through every call, on the
+//! main thread. `run_big.sh` runs it with a small stack.
+
+use compare::large::{accepted, filled_up, forms, group, leaves, nested, props, GROUPS, LEAVES, LEVELS};
+use compare::{Subject, Tally};
+use second::random::Random;
+use second::{Accepted, Refused, LONGEST_FILE};
+use std::process::ExitCode;
+use std::time::Instant;
+
+/// PROPs in the LIST, unless the command line says otherwise.
+const PROPS: usize = 10_000;
+
+struct Case {
+    name: &'static str,
+    file: Vec<u8>,
+    known: Result<Accepted, Refused>,
+}
+
+fn refused(number: u32, place: usize) -> Result<Accepted, Refused> {
+    Err(Refused { number, place })
+}
+
+/// A FORM that ends where the file may end: the last chunk has 4 bytes.
+fn full_form() -> Case {
+    let mut file = filled_up(leaves(LEAVES));
+    let size = |n: usize| (n as u32).to_be_bytes();
+    file[4..8].copy_from_slice(&size(LONGEST_FILE - 8));
+    file[LONGEST_FILE - 8..LONGEST_FILE - 4].copy_from_slice(&size(4));
+    Case { name: "FORM of as many chunks as fit", file, known: Ok(accepted(1 + LEAVES, LONGEST_FILE)) }
+}
+
+fn full_cat() -> Case {
+    let known = Ok(accepted(1 + GROUPS, 12 + 12 * GROUPS));
+    Case { name: "CAT of as many FORMs as fit", file: filled_up(forms(GROUPS)), known }
+}
+
+fn list_of_props(count: usize) -> Case {
+    let known = Ok(accepted(1 + count, 12 + 12 * count));
+    Case { name: "LIST of PROPs of different types", file: filled_up(props(count)), known }
+}
+
+/// The last PROP has the type of the first.
+fn second_prop(count: usize) -> Case {
+    let mut file = props(count);
+    let last = file.len() - 12;
+    file.copy_within(20..24, last + 8);
+    Case { name: "the same, the last of the first's type", file, known: refused(12, last) }
+}
+
+/// Sixteen groups, the innermost full of chunks.
+fn deepest() -> Case {
+    let count = (LONGEST_FILE - 12 * LEVELS) / 8;
+    let file = nested(LEVELS, &leaves(count)[12..]);
+    let known = Ok(accepted(LEVELS + count, file.len()));
+    Case { name: "16 nested groups, the innermost full", file: filled_up(file), known }
+}
+
+/// A CAT of as many chains of groups down to level 16 as fit.
+fn deep_members() -> Case {
+    let chain = nested(LEVELS - 1, &[]);
+    let count = (LONGEST_FILE - 12) / chain.len();
+    let file = group(b"CAT ", b"JJJJ", &chain.repeat(count));
+    let known = Ok(accepted(1 + (LEVELS - 1) * count, file.len()));
+    Case { name: "CAT of members nested down to level 16", file: filled_up(file), known }
+}
+
+fn too_deep() -> Case {
+    Case {
+        name: "17 nested groups",
+        file: filled_up(nested(LEVELS + 1, &[])),
+        known: refused(9, 12 * LEVELS),
+    }
+}
+
+fn too_long() -> Case {
+    let mut file = filled_up(leaves(LEAVES));
+    file.push(0);
+    Case { name: "one byte too many", file, known: refused(1, 0) }
+}
+
+fn run(case: &Case) -> Result<(), String> {
+    let mut random = Random::new(case.file.len() as u64);
+    let told = second::check(&case.file);
+    if told != case.known {
+        return Err(format!("known is {:?}, the second reader gives {told:?}", case.known));
+    }
+    Subject::large(&mut random, &case.file).compare(&mut random, &mut Tally::default())
+}
+
+fn main() -> ExitCode {
+    let count = std::env::args().nth(1).map_or(PROPS, |word| word.parse().expect("a number"));
+    let cases: [&dyn Fn() -> Case; 8] = [
+        &full_form,
+        &full_cat,
+        &|| list_of_props(count),
+        &|| second_prop(count),
+        &deepest,
+        &deep_members,
+        &too_deep,
+        &too_long,
+    ];
+    for case in cases {
+        let case = case();
+        let start = Instant::now();
+        if let Err(text) = run(&case) {
+            println!("{}: {text}", case.name);
+            return ExitCode::FAILURE;
+        }
+        let bytes = case.file.len();
+        println!("{}: {bytes} bytes, as known, {:.1} s", case.name, start.elapsed().as_secs_f64());
+    }
+    ExitCode::SUCCESS
+}

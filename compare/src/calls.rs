@@ -1,0 +1,18 @@
+//! The calls that are compared.
+
+use crate::{check, copy, data, pictures, record, Outcome, Subject, Tally};
+use second::random::Random;
+
+/// One exported call.
+pub struct Call {
+    pub name: &'static str,
+    /// Every number that it can answer.
+    pub numbers: &'static [usize],
+    /// Makes the call on a file, in several ways if it takes more than the
+    /// file, and compares all that it tells with what the second reader tells.
+    pub compare: fn(&Subject, &mut Random, &mut Tally) -> Outcome,
+    /// Makes the call once on an accepted file, to be timed.
+    pub run: fn(&[u8]),
+}
+
+pub const CALLS: &[Call] = &[check::CALL, record::CALL, data::CALL, copy::CALL, pictures::CALL];

@@ -1,0 +1,64 @@
+//! The largest and deepest files, with the answers that are known of them.
+
+use second::{Accepted, LONGEST_FILE};
+
+/// As many empty chunks as fit into a FORM of the longest file.
+pub const LEAVES: usize = (LONGEST_FILE - 12) / 8;
+
+/// As many groups without members as fit into a group of the longest file.
+pub const GROUPS: usize = (LONGEST_FILE - 12) / 12;
+
+/// Levels that groups may have.
+pub const LEVELS: usize = 16;
+
+fn header(name: &[u8; 4], size: usize) -> [u8; 8] {
+    let size = (size as u32).to_be_bytes();
+    std::array::from_fn(|n| if n < 4 { name[n] } else { size[n - 4] })
+}
+
+/// A group with these bytes as its members.
+pub fn group(name: &[u8; 4], kind: &[u8; 4], members: &[u8]) -> Vec<u8> {
+    [&header(name, 4 + members.len())[..], kind, members].concat()
+}
+
+/// A FORM of so many chunks without data.
+pub fn leaves(count: usize) -> Vec<u8> {
+    group(b"FORM", b"TEST", &header(b"DATA", 0).repeat(count))
+}
+
+/// A CAT of so many FORMs without members.
+pub fn forms(count: usize) -> Vec<u8> {
+    group(b"CAT ", b"JJJJ", &group(b"FORM", b"ILBM", &[]).repeat(count))
+}
+
+/// A LIST of so many PROPs of different types.
+pub fn props(count: usize) -> Vec<u8> {
+    let members: Vec<u8> = types().take(count).flat_map(|kind| group(b"PROP", &kind, &[])).collect();
+    group(b"LIST", b"JJJJ", &members)
+}
+
+/// Types for a FORM or PROP, each once.
+fn types() -> impl Iterator<Item = [u8; 4]> {
+    const LETTERS: &[u8; 36] = b"ABCDEFGHIJKLMNOPQRSTUVWXYZ0123456789";
+    let kind = |n: usize| [n / 46_656, n / 1_296 % 36, n / 36 % 36, n % 36].map(|digit| LETTERS[digit]);
+    let free = |kind: &[u8; 4]| second::Name(*kind).is_form_type();
+    (0..36 * 46_656).map(kind).filter(free)
+}
+
+/// So many groups, each in the one before it, around these members of the
+/// innermost: a FORM. The others are LIST, CAT and FORM in turn.
+pub fn nested(levels: usize, members: &[u8]) -> Vec<u8> {
+    let innermost = group(b"FORM", b"DEEP", members);
+    (1..levels).fold(innermost, |inner, level| group([b"LIST", b"CAT ", b"FORM"][level % 3], b"DEEP", &inner))
+}
+
+/// The file with as many bytes after its end as a file may have at most.
+pub fn filled_up(mut file: Vec<u8>) -> Vec<u8> {
+    file.resize(LONGEST_FILE, 0);
+    file
+}
+
+/// What is known of an accepted file of the greatest length.
+pub fn accepted(chunks: usize, end: usize) -> Accepted {
+    Accepted { chunks, end, trailing: LONGEST_FILE - end }
+}

@@ -1,0 +1,81 @@
+//! `compare [SEED] [FILES]`: every call beside the second reader, on the
+//! scope's examples, on changed samples and on generated files. Stops at the
+//! first difference.
+
+use compare::fixed::{examples, variations};
+use compare::{Subject, Tally};
+use second::generate;
+use second::random::Random;
+use std::process::ExitCode;
+use std::time::Instant;
+
+const SEED: u64 = 1985;
+const FILES: u64 = 200_000;
+
+/// At most so many bytes of a file are printed.
+const PRINTED: usize = 65_536;
+
+fn main() -> ExitCode {
+    let words: Vec<u64> = std::env::args().skip(1).map(|word| word.parse().expect("a number")).collect();
+    let seed = words.first().copied().unwrap_or(SEED);
+    let files = words.get(1).copied().unwrap_or(FILES);
+    let start = Instant::now();
+    let mut tally = Tally::default();
+    let compared = compare_examples(&mut tally)
+        .and_then(|()| compare_variations(&mut tally))
+        .and_then(|()| compare_generated(&mut tally, seed, files));
+    if let Err(text) = compared {
+        println!("{text}");
+        return ExitCode::FAILURE;
+    }
+    println!("seed {seed}, {files} files, no difference, {:.1} s", start.elapsed().as_secs_f64());
+    print!("{}", tally.text());
+    let missing = tally.missing();
+    if files >= FILES && !missing.is_empty() {
+        println!("never answered: {}", missing.join(" "));
+        return ExitCode::FAILURE;
+    }
+    ExitCode::SUCCESS
+}
+
+fn compare_examples(tally: &mut Tally) -> Result<(), String> {
+    for example in examples() {
+        let told = florinhado::check(&example.file).map_or_else(|told| (told.number, told.place), |_| (0, 0));
+        if told != (example.number, example.place) {
+            return Err(format!("{}: check gives {told:?}\n{}", example.name, dump(&example.file)));
+        }
+        compare_file(example.name, &mut Random::new(0), &example.file, tally)?;
+    }
+    Ok(())
+}
+
+fn compare_variations(tally: &mut Tally) -> Result<(), String> {
+    let mut random = Random::new(0);
+    variations().try_for_each(|file| compare_file("changed sample", &mut random, &file, tally))
+}
+
+/// Each file has a seed of its own, so that it can be had again alone.
+fn compare_generated(tally: &mut Tally, seed: u64, files: u64) -> Result<(), String> {
+    (0..files).map(|number| seed.wrapping_add(number)).try_for_each(|own| {
+        let mut random = Random::new(own);
+        let file = generate::file(&mut random);
+        compare_file(&format!("seed {own}"), &mut random, &file, tally)
+    })
+}
+
+fn compare_file(what: &str, random: &mut Random, file: &[u8], tally: &mut Tally) -> Result<(), String> {
+    let compared = Subject::new(random, file).compare(random, tally);
+    compared.map_err(|text| format!("{what}: {text}\n{}", dump(file)))
+}
+
+/// The bytes in hex with their places, 16 a line.
+fn dump(file: &[u8]) -> String {
+    let mut text = format!("{} bytes\n", file.len());
+    for (line, bytes) in file[..file.len().min(PRINTED)].chunks(16).enumerate() {
+        let hex: Vec<String> = bytes.iter().map(|byte| format!("{byte:02x}")).collect();
+        let shown = |byte: &u8| if (0x20..0x7f).contains(byte) { *byte as char } else { '.' };
+        let plain: String = bytes.iter().map(shown).collect();
+        text += &format!("{:08x}  {:47}  {plain}\n", line * 16, hex.join(" "));
+    }
+    text
+}

@@ -1,0 +1,61 @@
+//! A file with what the second reader tells of it.
+
+use crate::{Outcome, Tally, CALLS};
+use second::random::Random;
+use second::{Record, Refused};
+
+/// Bytes on either side of the file that belong to nobody.
+const MARGIN: usize = 24;
+
+/// A file among other bytes, and its records by the second reader.
+pub struct Subject {
+    bytes: Vec<u8>,
+    /// The numbers of records that are asked for.
+    pub asked: Vec<usize>,
+    pub records: Result<Vec<Record>, Refused>,
+}
+
+impl Subject {
+    /// The file with every record asked for, one beyond, and the last number.
+    pub fn new(random: &mut Random, file: &[u8]) -> Subject {
+        let mut subject = Subject::large(random, file);
+        let count = subject.records.as_ref().map_or(1, Vec::len);
+        subject.asked = (0..=count).chain([usize::MAX]).collect();
+        subject
+    }
+
+    /// The file with only some of its records asked for.
+    pub fn large(random: &mut Random, file: &[u8]) -> Subject {
+        let mut bytes = random.bytes(MARGIN);
+        bytes.extend_from_slice(file);
+        // What follows would do as chunks, for a reader that goes too far.
+        bytes.extend_from_slice(random.pick(&[b"DATA\0\0\0\0", b"FORM\0\0\0\x04", b"    \0\0\0\0"]));
+        bytes.extend(random.bytes(MARGIN - 8));
+        let records = second::records(file);
+        let count = records.as_ref().map_or(1, Vec::len);
+        let asked = vec![0, count / 2, count - 1, count];
+        Subject { bytes, asked, records }
+    }
+
+    pub fn file(&self) -> &[u8] {
+        &self.bytes[MARGIN..self.bytes.len() - MARGIN]
+    }
+
+    /// What `second::record` gives, without reading the file anew.
+    pub fn record(&self, number: usize) -> Result<Record, Refused> {
+        let records = self.records.as_ref().map_err(|refused| *refused)?;
+        records.get(number).copied().ok_or(Refused { number: 14, place: 0 })
+    }
+
+    /// Makes every call and sees that none changed the file.
+    pub fn compare(&self, random: &mut Random, tally: &mut Tally) -> Outcome {
+        let before = self.bytes.clone();
+        for call in CALLS {
+            (call.compare)(self, random, tally).map_err(|text| format!("{}: {text}", call.name))?;
+            if self.bytes != before {
+                return Err(format!("{}: the file was changed", call.name));
+            }
+        }
+        Ok(())
+    }
+}

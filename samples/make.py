@@ -1,0 +1,73 @@
+"""Makes the sample files: python3 samples/make.py FOLDER SAMPLE
+
+SAMPLE is compare's program `sample`: the second reader writes the picture, and
+the listing that stands beside each file.
+"""
+
+import pathlib
+import subprocess
+import sys
+
+
+def chunk(name, data=b"", pad=b"\0"):
+    """A chunk with its size, and the pad byte if the size is odd."""
+    return name + len(data).to_bytes(4, "big") + data + pad * (len(data) % 2)
+
+
+def group(name, kind, *members):
+    return chunk(name, kind + b"".join(members))
+
+
+def nested():
+    """LIST, PROPs, filler, CAT, FORMs in FORMs, odd sizes, trailing bytes."""
+    colours = chunk(b"CMAP", bytes(range(9)), pad=b"\x7f")
+    inner = group(b"FORM", b"8SVX", chunk(b"NAME", b"odd", pad=b"\xff"), chunk(b"VHDR"))
+    outer = group(
+        b"FORM", b"ANIM", chunk(b"ab~!", b"\1"), group(b"CAT ", b"8SVX", inner, chunk(b"    ", b"gap"))
+    )
+    file = group(
+        b"LIST",
+        b"ILBM",
+        chunk(b"    ", b"12345"),
+        group(b"PROP", b"ILBM", colours),
+        chunk(b"    "),
+        group(b"PROP", b"8SVX"),
+        group(b"FORM", b"ILBM", chunk(b"TINY", b"tiny")),
+        outer,
+    )
+    return file + b"trailing"
+
+
+def second_prop():
+    """Refused: two PROPs of one type in a LIST."""
+    prop = group(b"PROP", b"ILBM")
+    return group(b"LIST", b"JJJJ", prop, prop)
+
+
+def accepted(chunks, end, trailing=0):
+    return f"answer=0\nplace=0\nchunks={chunks}\nend={end}\ntrailing={trailing}\n"
+
+
+def run(*words, given=b""):
+    return subprocess.run(words, input=given, check=True, capture_output=True).stdout
+
+
+def main():
+    folder, sample = pathlib.Path(sys.argv[1]), sys.argv[2]
+    folder.mkdir(parents=True, exist_ok=True)
+    picture = run(sample, "picture")
+    samples = {
+        "form": (group(b"FORM", b"ILBM"), accepted(1, 12)),
+        "nested": (nested(), accepted(15, 178, 8)),
+        "picture": (picture, accepted(4, len(picture))),
+        "second_prop": (second_prop(), "answer=12\nplace=24\n"),
+    }
+    for name, (file, known) in samples.items():
+        listing = run(sample, "list", given=file).decode()
+        assert listing.startswith(known), name
+        (folder / f"{name}.iff").write_bytes(file)
+        (folder / f"{name}.txt").write_text(listing)
+
+
+if __name__ == "__main__":
+    main()
