@@ -1,0 +1,48 @@
+-- The three demands on the library, as theorems over the definitions that the contracts of the public calls cite.
+use Prim.Native.Nat.{ℕ, _≤_}
+use mathlib.Core.Path.{_≡_}
+use mathlib.Core.List.{List}
+use mathlib.Core.Logic.{_↔_}
+use lib.ListN.{length}
+use Rattle.tree.specs.Chunks.{Chunk, before, none, bytes, count}
+use Rattle.tree.specs.Judge.{found, readFile, checkOf}
+use Rattle.tree.specs.declared.Verdict.the-variants.{Accepted, Refused}
+use Rattle.grammar.specs.Words.{Bytes}
+use Rattle.grammar.specs.Grammar.{ChunkFile}
+use Rattle.grammar.specs.Accept as Accept
+use Rattle.byterun.specs.Packing.{Packs}
+use Rattle.pack.specs.Pack.{packed}
+use Rattle.pack.specs.Laws as Packing
+use Rattle.additions.specs.Statement as Statement
+use Rattle.additions.specs.Demand3 as Additions
+use Rattle.demands.specs.Numbers.{Structural}
+use Rattle.demands.specs.Numbers as Numbers
+
+-- Demand 1. Any bytes may be handed to the check, and a refusal has one of the numbers 1 to 12. That every call ends, stays inside
+-- what it was lent and answers by these definitions is what its proved contract says.
+pub refused-by-number : (s : List ℕ) (k p : ℕ) → checkOf s ≡ Refused k p → Structural k
+refused-by-number = Numbers.refusals
+
+-- Demand 2. A file is accepted exactly if it is a chunk tree and then trailing bytes, within the limits of length and nesting; and
+-- the counts that are told are the tree's.
+pub accepted-iff-tree :
+    (s : List ℕ) → Bytes s → (n e t : ℕ) →
+    (checkOf s ≡ Accepted n e t) ↔
+    ((c : Chunk) × (R : List ℕ) × ChunkFile s c R × (n ≡ count (before c none)) × (e ≡ length (bytes (before c none))) × (t ≡ length R))
+accepted-iff-tree = Accept.accepted-iff
+
+-- One file has one tree.
+pub one-tree : (s : List ℕ) (c d : Chunk) (R S : List ℕ) → ChunkFile s c R → ChunkFile s d S → (c ≡ d) × (R ≡ S)
+one-tree = Accept.unique
+
+-- A packed row unpacks to the row, from any place of any BODY, and grows by at most one byte per started 128.
+pub packed-unpacks : (row : List ℕ) → Packs (packed row) row
+packed-unpacks = Packing.packed-unpacks
+
+pub packed-short : (row : List ℕ) → length (packed row) ≤ Packing.mostFor (length row)
+packed-short = Packing.packed-short
+
+-- Demand 3. Whatever a later writer adds, list of additions and all: the file is still accepted, every call on every picture
+-- answers as before but for the moved place of a shared PROP, and version names over added headers give 3 at the first of them.
+pub unchanged-by-additions : Statement.Demand3
+unchanged-by-additions = Additions.demand3

@@ -1,0 +1,1 @@
+// Theorems alone: the demands on the library, and the worked examples.
