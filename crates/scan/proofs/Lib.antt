@@ -1,0 +1,5 @@
+pub mod Judging
+pub mod Writing
+pub mod Colours
+pub mod Lines
+pub mod Frame
