@@ -69,7 +69,7 @@ module _ (s : List ℕ) (p e q : ℕ) (F : Chunks) (R : List ℕ) (h : Holds s p
         regular = until-regular F (h .regular);
         ends = sym i;
         inside = omega (arith, h .ends, h .inside);
-        short = h .short
+        short = h .short;
       }
 
 pub until-row : (s : List ℕ) (p e q : ℕ) → Row s p e → StopsAtBody s p e q → Row s p q
@@ -182,16 +182,16 @@ pub all-content :
 all-content s p e prop r a b c d f g n w =
     record {
       at = λ F R scope h k.
-        record {
-          bmhd = a .at F R scope h k;
-          cmap = b .at F R scope h k;
-          grab = c .at F R scope h k;
-          dest = d .at F R scope h k;
-          sprt = f .at F R scope h k;
-          camg = g .at F R scope h k;
-          bodies = n F R h;
-          body = w F R h
-        }
+          record {
+            bmhd = a .at F R scope h k;
+            cmap = b .at F R scope h k;
+            grab = c .at F R scope h k;
+            dest = d .at F R scope h k;
+            sprt = f .at F R scope h k;
+            camg = g .at F R scope h k;
+            bodies = n F R h;
+            body = w F R h;
+          };
     }
 
 pub ruleset prop-laws = (shared-absent, shared-none, shared-some, prop-room, prop-fits, prop-fits-8, prop-fits-12, prop-end-fits, prop-row)

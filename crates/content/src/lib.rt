@@ -1,9 +1,9 @@
 // The content of the picture in a FORM: each property that counts, with its origin, and the BODYs, as parts of the file.
 use ilbm::Origin;
+use members::Part;
 use members::count_bodies;
 use members::first_body;
 use members::last_named;
-use members::Part;
 use members::until_body;
 use name::Name;
 use tree::size_at;
@@ -16,10 +16,15 @@ ghost use Rattle.locate.specs.Spots.{Scoped};
 ghost use Rattle.content.specs.Held.{SharedIs, PropertyIs, ContentIs};
 
 const BMHD: Name = Name { code: 0x424D4844 };
+
 const CMAP: Name = Name { code: 0x434D4150 };
+
 const GRAB: Name = Name { code: 0x47524142 };
+
 const DEST: Name = Name { code: 0x44455354 };
+
 const SPRT: Name = Name { code: 0x53505254 };
+
 const CAMG: Name = Name { code: 0x43414D47 };
 
 // A property's data, and where it comes from.
@@ -67,9 +72,7 @@ fn shared_property(s: &[u8], prop: usize, name: Name) -> Held
 
 // The property of this name that counts in a FORM whose members stand from p to e, its first BODY at `body`.
 fn property(s: &[u8], p: usize, e: usize, body: usize, prop: usize, name: Name) -> Held
-    requires {
-        ⌜ (Row (now s) p e) × (StopsAtBody (now s) p e body) × (Scoped (now s) prop) × (isGroup (kindOf (name .code)) ≡ false) ⌝
-    }
+    requires { ⌜ (Row (now s) p e) × (StopsAtBody (now s) p e body) × (Scoped (now s) prop) × (isGroup (kindOf (name .code)) ≡ false) ⌝ }
     ensures { λ r. ⌜ PropertyIs (now (s .entry)) p e prop (name .code) r ⌝ }
 {
     let own = last_named(s, p, body, name);

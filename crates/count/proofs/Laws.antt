@@ -84,7 +84,7 @@ module _ (s : List ℕ) (e p n v k q : ℕ) (w : Counting s e p n v) (l : p < e)
       record {
         coming = later (w .coming);
         stand = rw b (coming-later s p e (w .coming) (w .stand) l);
-        sum = omega (arith, later-forms s p e (w .coming) (w .stand) l, w .sum)
+        sum = omega (arith, later-forms s p e (w .coming) (w .stand) l, w .sum);
       }
 
   further : (p + 8 ≤ q) × (q ≤ e)

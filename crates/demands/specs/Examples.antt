@@ -37,7 +37,7 @@ threePixels =
       «x_aspect» = 0;
       «y_aspect» = 0;
       «page_width» = pos 0;
-      «page_height» = pos 0
+      «page_height» = pos 0;
     }
 
 pub record Table : Type 0 where
@@ -48,10 +48,10 @@ pub record Table : Type 0 where
   pub cut-short : checkOf (70 ∷ 79 ∷ 82 ∷ 77 ∷ 0 ∷ 0 ∷ 0 ∷ 4 ∷ 73 ∷ 76 ∷ 66 ∷ []) ≡ Refused 7 0
   pub one-byte-inside : checkOf (70 ∷ 79 ∷ 82 ∷ 77 ∷ 0 ∷ 0 ∷ 0 ∷ 5 ∷ 73 ∷ 76 ∷ 66 ∷ 77 ∷ 0 ∷ 0 ∷ []) ≡ Refused 4 12
   pub second-prop :
-    checkOf
-    (76 ∷ 73 ∷ 83 ∷ 84 ∷ 0 ∷ 0 ∷ 0 ∷ 28 ∷ 74 ∷ 74 ∷ 74 ∷ 74 ∷ 80 ∷ 82 ∷ 79 ∷ 80 ∷ 0 ∷ 0 ∷ 0 ∷ 4 ∷ 73 ∷ 76 ∷ 66 ∷ 77 ∷ 80 ∷ 82 ∷ 79 ∷ 80 ∷ 0 ∷ 0 ∷ 0 ∷ 4 ∷ 73 ∷ 76 ∷
-     66 ∷ 77 ∷ [])
-    ≡ Refused 12 24
+      checkOf
+      (76 ∷ 73 ∷ 83 ∷ 84 ∷ 0 ∷ 0 ∷ 0 ∷ 28 ∷ 74 ∷ 74 ∷ 74 ∷ 74 ∷ 80 ∷ 82 ∷ 79 ∷ 80 ∷ 0 ∷ 0 ∷ 0 ∷ 4 ∷ 73 ∷ 76 ∷ 66 ∷ 77 ∷ 80 ∷ 82 ∷ 79 ∷ 80 ∷ 0 ∷ 0 ∷ 0 ∷ 4 ∷ 73 ∷ 76 ∷
+      66 ∷ 77 ∷ [])
+      ≡ Refused 12 24
   pub repeated-zeros : unpackRow (0xFD ∷ 0x00 ∷ []) 0 4 ≡ filled (0 ∷ 0 ∷ 0 ∷ 0 ∷ []) 2
   pub after-nothing : unpackRow (0x80 ∷ 0xFD ∷ 0x00 ∷ []) 0 4 ≡ filled (0 ∷ 0 ∷ 0 ∷ 0 ∷ []) 3
   pub repeat-too-long : unpackRow (0xFE ∷ 0x07 ∷ []) 0 2 ≡ over 0
@@ -75,5 +75,5 @@ examples =
       repeat-too-long = refl;
       copy-cut-short = refl;
       two-equal = refl;
-      three-colours = refl
+      three-colours = refl;
     }

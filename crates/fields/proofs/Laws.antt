@@ -62,7 +62,7 @@ pub bitmap-header :
       «x_aspect» = getD d 14 0;
       «y_aspect» = getD d 15 0;
       «page_width» = pw;
-      «page_height» = ph
+      «page_height» = ph;
     })
     (headerIn d)
 unfolding headerIn

@@ -24,10 +24,8 @@ pub extern "C" fn iff_check(
     end: &mut usize,
     trailing: &mut usize,
 ) -> usize
-    ensures {
-        λ r. ⌜ record { number = r; place = now (place .exit); chunks = now (chunks .exit); end = now (end .exit); trailing = now (trailing .exit) }
-        ≡ checkTold (checkOf (now (file .entry))) ⌝
-    }
+    ensures { λ r. ⌜ record { number = r; place = now (place .exit); chunks = now (chunks .exit); end = now (end .exit); trailing = now (trailing .exit) }
+        ≡ checkTold (checkOf (now (file .entry))) ⌝ }
 {
     let v = tree::check(file);
     match v {
@@ -77,10 +75,15 @@ pub extern "C" fn iff_record(
     at: &mut usize,
     size: &mut usize,
 ) -> usize
-    ensures {
-        λ r. ⌜ record { number = r; place = now (place .exit); level = now (level .exit); kind = now (kind .exit); name = now (name .exit);
-        at = now (at .exit); size = now (size .exit) } ≡ recordTold (recordOf (now (file .entry)) number) ⌝
-    }
+    ensures { λ r. ⌜ record {
+      number = r;
+      place = now (place .exit);
+      level = now (level .exit);
+      kind = now (kind .exit);
+      name = now (name .exit);
+      at = now (at .exit);
+      size = now (size .exit);
+    } ≡ recordTold (recordOf (now (file .entry)) number) ⌝ }
 {
     let v = listing::record_by_number(file, number);
     match v {
@@ -111,11 +114,15 @@ pub extern "C" fn iff_record(
 
 // Where the data of a local or filler chunk lies in the file.
 #[no_mangle]
-pub extern "C" fn iff_data(file: &[u8], number: usize, place: &mut usize, from: &mut usize, to: &mut usize) -> usize
-    ensures {
-        λ r. ⌜ record { number = r; place = now (place .exit); from = now (from .exit); to = now (to .exit) }
-        ≡ dataTold (extentOf (now (file .entry)) number) ⌝
-    }
+pub extern "C" fn iff_data(
+    file: &[u8],
+    number: usize,
+    place: &mut usize,
+    from: &mut usize,
+    to: &mut usize,
+) -> usize
+    ensures { λ r. ⌜ record { number = r; place = now (place .exit); from = now (from .exit); to = now (to .exit) }
+        ≡ dataTold (extentOf (now (file .entry)) number) ⌝ }
 {
     let v = listing::data_extent(file, number);
     match v {
@@ -139,11 +146,14 @@ pub extern "C" fn iff_data(file: &[u8], number: usize, place: &mut usize, from: 
 
 // The clean copy of a file, into `out`.
 #[no_mangle]
-pub extern "C" fn iff_clean_copy(file: &[u8], out: &mut [u8], place: &mut usize, written: &mut usize) -> usize
-    ensures told {
-        λ r. ⌜ record { number = r; place = now (place .exit); value = now (written .exit) }
-        ≡ copyTold (copyOf (now (file .entry)) (length (now (out .entry)))) ⌝
-    }
+pub extern "C" fn iff_clean_copy(
+    file: &[u8],
+    out: &mut [u8],
+    place: &mut usize,
+    written: &mut usize,
+) -> usize
+    ensures told { λ r. ⌜ record { number = r; place = now (place .exit); value = now (written .exit) }
+        ≡ copyTold (copyOf (now (file .entry)) (length (now (out .entry)))) ⌝ }
     ensures copied { λ _. ⌜ now (out .exit) ≡ copiedInto (now (file .entry)) (now (out .entry)) ⌝ }
 {
     let v = copy::clean_copy(file, out);
@@ -164,9 +174,7 @@ pub extern "C" fn iff_clean_copy(file: &[u8], out: &mut [u8], place: &mut usize,
 // How many pictures a file has.
 #[no_mangle]
 pub extern "C" fn iff_count_pictures(file: &[u8], place: &mut usize, pictures: &mut usize) -> usize
-    ensures {
-        λ r. ⌜ record { number = r; place = now (place .exit); value = now (pictures .exit) } ≡ countTold (countOf (now (file .entry))) ⌝
-    }
+    ensures { λ r. ⌜ record { number = r; place = now (place .exit); value = now (pictures .exit) } ≡ countTold (countOf (now (file .entry))) ⌝ }
 {
     let v = count::count_pictures(file);
     match v {

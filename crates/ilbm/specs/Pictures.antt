@@ -46,7 +46,7 @@ headerIn d =
       «x_aspect» = getD d 14 0;
       «y_aspect» = getD d 15 0;
       «page_width» = signed (u16 d 16);
-      «page_height» = signed (u16 d 18)
+      «page_height» = signed (u16 d 18);
     }
 
 -- GRAB: the hot spot's x and y, signed
@@ -142,7 +142,7 @@ pictureFrom c =
       sprite = u16 (dataOf (c .sprt)) 0;
       «sprite_from» = originOf (c .sprt);
       «view_mode» = u32 (dataOf (c .camg)) 0;
-      «view_mode_from» = originOf (c .camg)
+      «view_mode_from» = originOf (c .camg);
     }
 
 abbrev pub pictureAnswer : Viewed → PictureAnswer

@@ -65,7 +65,7 @@ module _ (s : List ℕ) (q e n t : ℕ) (G F : Chunks) (R : List ℕ) (h : Holds
         regular = h .regular .3;
         ends = omega arith;
         inside = omega arith;
-        short = h .short
+        short = h .short;
       }
 
   pub opens-here : Opens s q G

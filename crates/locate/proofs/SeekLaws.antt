@@ -90,8 +90,8 @@ module _ (s : List ℕ) (q e prop : ℕ) where
 -- the loop: the pictures still to pass among the chunks to come
 pub record Passing (s : List ℕ) (p e prop k q left : ℕ) : Type 0 where
   pub at :
-    (F : Chunks) (R : List ℕ) (scope : List SharedProp) → Holds s p e F R → ScopeIs s prop scope →
-    (K : Chunks) × Holds s q e K R × ((Y : List Content) → drop k (contentsFrom p scope F ++ Y) ≡ drop left (contentsFrom q scope K ++ Y))
+      (F : Chunks) (R : List ℕ) (scope : List SharedProp) → Holds s p e F R → ScopeIs s prop scope →
+      (K : Chunks) × Holds s q e K R × ((Y : List Content) → drop k (contentsFrom p scope F ++ Y) ≡ drop left (contentsFrom q scope K ++ Y))
 
 -- the pictures in a row are those in its first chunk and those after it
 module _ (s : List ℕ) (q e : ℕ) (m : Sibling) (t : Tells s q e m) where
@@ -143,7 +143,7 @@ module _ (s : List ℕ) (p e prop k q left : ℕ) (v : Spot) (w : Passing s p e 
           let z = split-any q scope (x .0) in
           let u : Spotted s left (contentsHere q scope (x .0)) (Here f g) = rw i at (y .at (x .0) R scope (x .1) c) in
           let d : drop left (contentsFrom q scope (x .0)) ≡ contentOf (u .0) (u .1) ∷ (u .2 ++ z .0) =
-            rw (z .1) (drop-before left (contentsHere q scope (x .0)) (z .0) (contentOf (u .0) (u .1)) (u .2) (u .5)) in
+          rw (z .1) (drop-before left (contentsHere q scope (x .0)) (z .0) (contentOf (u .0) (u .1)) (u .2) (u .5)) in
           (u .0, u .1, u .2 ++ z .0, u .3, u .4, (rw (append-nil, append-nil) at (x .2 [])) ∙ d)
 
 module _ (s : List ℕ) (p e prop k : ℕ) where

@@ -50,8 +50,8 @@ pub record Visits (s : List ℕ) (p e prop k : ℕ) (r : Spot) : Type 0 where
 
 pub record Enters (s : List ℕ) (p e prop k : ℕ) (r : Spot) : Type 0 where
   pub at :
-    (n t : ℕ) (G F : Chunks) (R : List ℕ) (scope : List SharedProp) → Holds s p e (group n t G F) R → ScopeIs s prop scope →
-    Spotted s k (contentsFrom (p + 12) (scopeInside n p G scope) G) r
+      (n t : ℕ) (G F : Chunks) (R : List ℕ) (scope : List SharedProp) → Holds s p e (group n t G F) R → ScopeIs s prop scope →
+      Spotted s k (contentsFrom (p + 12) (scopeInside n p G scope) G) r
 
 -- some scope is told by prop
 abbrev pub Scoped : List ℕ → ℕ → Type 0

@@ -26,7 +26,11 @@ pub enum Spot {
 fn is_a(n: Name, t: Name, name: Name, kind: u32) -> bool
     ensures { λ r. ⌜ r ≡ both (eqb (n .code) (name .code)) (eqb (t .code) kind) ⌝ }
 {
-    if n.code == name.code { t.code == kind } else { false }
+    if n.code == name.code {
+        t.code == kind
+    } else {
+        false
+    }
 }
 
 // Whether the member at q is a group of this name and type.

@@ -44,16 +44,18 @@ module _ (s : List ℕ) (p e n z : ℕ) (a : n ≡ word s p) (b : z ≡ word s (
       let f = leaf-fits s p m d pd F R x (h .short) (h .rest) in
       let w = leaf-next s p m d pd F R x (h .short) (h .rest) in
       let c : z ≡ length d = b ∙ y in
-      let v = length-leaf m d pd F in
-      (a ∙ leaf-name s p m d pd F R x (h .short) (h .rest),
-       (rw c (leaf-data s p m d pd F R x (h .short) (h .rest)), omega arith, omega arith),
-       rw next-is (record { rest = leaf-rest s p m d pd F R x (h .short) (h .rest); regular = x .3; ends = omega (arith, h .ends); inside = h .inside; short = h .short }))
+      let v = length-leaf m d pd F in (
+        a ∙ leaf-name s p m d pd F R x (h .short) (h .rest),
+        (rw c (leaf-data s p m d pd F R x (h .short) (h .rest)), omega arith, omega arith),
+        rw next-is (record { rest = leaf-rest s p m d pd F R x (h .short) (h .rest); regular = x .3; ends = omega (arith, h .ends); inside = h .inside; short = h .short }),
+      )
   front-read (group m t G F) R h =
       let x = h .regular in
       let w = group-next s p m t G F R x (h .short) (h .rest) in
-      let v = length-group m t G F in
-      (a ∙ group-name s p m t G F R x (h .short) (h .rest),
-       rw next-is (record { rest = group-rest s p m t G F R x (h .short) (h .rest); regular = x .4; ends = omega (arith, h .ends); inside = h .inside; short = h .short }))
+      let v = length-group m t G F in (
+        a ∙ group-name s p m t G F R x (h .short) (h .rest),
+        rw next-is (record { rest = group-rest s p m t G F R x (h .short) (h .rest); regular = x .4; ends = omega (arith, h .ends); inside = h .inside; short = h .short }),
+      )
 
   next-inside : (F : Chunks) (R : List ℕ) → Front s e n (p + 8) (p + 8 + z) (p + 8 + (z + 1) / 2 * 2) F R → p + 8 + (z + 1) / 2 * 2 ≤ e
   next-inside none R f = absurd f
@@ -108,9 +110,14 @@ module _ (s : List ℕ) (e name q : ℕ) (part part' : Part) (v : Option (List �
           (F : Chunks) → Shows s part so-far → lastShared name so-far F ≡ v → Front s e (m .name .code) (m .from) (m .to) (m .next) F R → Regular F →
           Looks s e name (m .next) part' v
       go none sh u f g = absurd f
-      go (leaf n d p F) sh u f g =
-          (pick (eqb n name) (some d) so-far, F, R,
-           rw (i, f .0) (shows-pick s (eqb n name) (m .from) (m .to) d part so-far (f .1) sh), f .2, u)
+      go (leaf n d p F) sh u f g = (
+        pick (eqb n name) (some d) so-far,
+        F,
+        R,
+        rw (i, f .0) (shows-pick s (eqb n name) (m .from) (m .to) d part so-far (f .1) sh),
+        f .2,
+        u,
+      )
       go (group n t G F) sh u f g = (so-far, F, R, rw (i, f .0, no-group n name (g .0) k) sh, f .1, u)
 
 pub look-end : (s : List ℕ) (e name q : ℕ) (part : Part) (v : Option (List ℕ)) → e ≤ q → Looks s e name q part v → Shows s part v

@@ -45,7 +45,11 @@ pub fn sibling_at(s: &[u8], p: usize, e: usize) -> Sibling
 fn newer(hit: bool, m: Sibling, old: Part) -> Part
     ensures { λ r. ⌜ r ≡ pick hit (Between (m .from) (m .to)) old ⌝ }
 {
-    if hit { Part::Between(m.from, m.to) } else { old }
+    if hit {
+        Part::Between(m.from, m.to)
+    } else {
+        old
+    }
 }
 
 // The data of the last member of this name.

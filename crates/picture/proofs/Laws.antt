@@ -94,7 +94,7 @@ module _ (s : List ℕ) (h : Held) (i : h .part ≡ Nothing) where
         «x_aspect» = 0;
         «y_aspect» = 0;
         «page_width» = pos 0;
-        «page_height» = pos 0
+        «page_height» = pos 0;
       })
   unfolding headerIn
   header-none = record { at = λ q k. rw (nothing-in q k) }
@@ -182,24 +182,24 @@ pub picture-told :
       sprite = w;
       «sprite_from» = c .sprt .origin;
       «view_mode» = m;
-      «view_mode_from» = c .camg .origin
+      «view_mode_from» = c .camg .origin;
     })
 unfolding pictureFrom
 picture-told s c b g d w m B G D W M =
     record {
       at = λ x k.
-        let e1 = B .at (x .bmhd) (k .bmhd) in
-        let e2 = G .at (x .grab) (k .grab) in
-        let e3 = D .at (x .dest) (k .dest) in
-        let e4 = W .at (x .sprt) (k .sprt) in
-        let e5 = M .at (x .camg) (k .camg) in
-        let o1 = origin-is s (c .bmhd) (x .bmhd) (k .bmhd) in
-        let o2 = origin-is s (c .cmap) (x .cmap) (k .cmap) in
-        let o3 = origin-is s (c .grab) (x .grab) (k .grab) in
-        let o4 = origin-is s (c .dest) (x .dest) (k .dest) in
-        let o5 = origin-is s (c .sprt) (x .sprt) (k .sprt) in
-        let o6 = origin-is s (c .camg) (x .camg) (k .camg) in
-        cc
+          let e1 = B .at (x .bmhd) (k .bmhd) in
+          let e2 = G .at (x .grab) (k .grab) in
+          let e3 = D .at (x .dest) (k .dest) in
+          let e4 = W .at (x .sprt) (k .sprt) in
+          let e5 = M .at (x .camg) (k .camg) in
+          let o1 = origin-is s (c .bmhd) (x .bmhd) (k .bmhd) in
+          let o2 = origin-is s (c .cmap) (x .cmap) (k .cmap) in
+          let o3 = origin-is s (c .grab) (x .grab) (k .grab) in
+          let o4 = origin-is s (c .dest) (x .dest) (k .dest) in
+          let o5 = origin-is s (c .sprt) (x .sprt) (k .sprt) in
+          let o6 = origin-is s (c .camg) (x .camg) (k .camg) in
+          cc;
     }
 
 -- from the view to the answers

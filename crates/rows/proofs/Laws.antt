@@ -74,8 +74,8 @@ few-planes : (h : BitmapHeader) (b : Bool) → headerFault h b ≡ 0 → h .plan
 unfolding headerFault
 few-planes h b e =
     let rest : ℕ =
-      pick (ltb 3 (h .masking)) 24
-      (pick (ltb 1 (h .compression)) 24 (pick (both b (either (eqb (h .w) 0) (either (eqb (h .h) 0) (eqb (h .planes) 0)))) 24 0)) in
+    pick (ltb 3 (h .masking)) 24
+    (pick (ltb 1 (h .compression)) 24 (pick (both b (either (eqb (h .w) 0) (either (eqb (h .h) 0) (eqb (h .planes) 0)))) 24 0)) in
     ltb-false 8 (h .planes) (not-24 (ltb 8 (h .planes)) rest e)
 
 pub planes-8 : (s : List ℕ) (c : Contents) (h : BitmapHeader) → Judged s c → HeaderTold s (c .bmhd) h → h .planes ≤ 8
@@ -97,7 +97,7 @@ module _ (s : List ℕ) (c : Contents) (a b : ℕ) (i : c .body ≡ Between a b)
         (x : Content) → ContentsAre s c x →
         lineRead (viewed x) start (length old)
         ≡ pick (ltb (b - a) start) (fault 29 0)
-          (pick (not (eqb (length old) (headerIn (dataOf (x .bmhd)) .w))) (fault 28 0) (lineFrom (headerIn (dataOf (x .bmhd))) (take (b - a) (drop a s)) start))
+        (pick (not (eqb (length old) (headerIn (dataOf (x .bmhd)) .w))) (fault 28 0) (lineFrom (headerIn (dataOf (x .bmhd))) (take (b - a) (drop a s)) start))
     line-at x k = let y = body-of x k in rw (y .is, y .sized)
 
     pub line-29 : b - a < start → LineDone s c start old (Refused 29 0) old
@@ -117,22 +117,22 @@ module _ (s : List ℕ) (c : Contents) (a b : ℕ) (i : c .body ≡ Between a b)
           (e : r ≡ told (lineBy (h .compression) (h .w) (h .planes) (h .planes + pick (eqb (h .masking) 1) 1 0) (take (b - a) (drop a s)) start))
           (w : new ≡ written (lineBy (h .compression) (h .w) (h .planes) (h .planes + pick (eqb (h .masking) 1) 1 0) (take (b - a) (drop a s)) start) old)
         where
-        at-line : (x : Content) → ContentsAre s c x → lineRead (viewed x) start (length old) ≡ lineFrom h (take (b - a) (drop a s)) start
-        at-line x k = at-header x k ∙ rw (eq-eqb _ _ n)
+          at-line : (x : Content) → ContentsAre s c x → lineRead (viewed x) start (length old) ≡ lineFrom h (take (b - a) (drop a s)) start
+          at-line x k = at-header x k ∙ rw (eq-eqb _ _ n)
 
-        pub line-next : (q : ℕ) → r ≡ Scanned-next q → LineDone s c start old (Next q) new
-        line-next q j = record { told = λ x k. rw (at-line x k) (next-told (lineFrom h (take (b - a) (drop a s)) start) (sym j ∙ e)); row = λ x k. rw (at-line x k) w }
-          where
-            next-told : (v : Read (List ℕ)) → Scanned-next q ≡ told v → Next q ≡ lineAnswer v
-            next-told (read cs p) y = let z : q ≡ p = cc in ap Next z
-            next-told (fault f p) y = absurd (let z : _≡_ {A = ℕ} 0 1 = cc in omega arith)
+          pub line-next : (q : ℕ) → r ≡ Scanned-next q → LineDone s c start old (Next q) new
+          line-next q j = record { told = λ x k. rw (at-line x k) (next-told (lineFrom h (take (b - a) (drop a s)) start) (sym j ∙ e)); row = λ x k. rw (at-line x k) w }
+            where
+              next-told : (v : Read (List ℕ)) → Scanned-next q ≡ told v → Next q ≡ lineAnswer v
+              next-told (read cs p) y = let z : q ≡ p = cc in ap Next z
+              next-told (fault f p) y = absurd (let z : _≡_ {A = ℕ} 0 1 = cc in omega arith)
 
-        pub line-fault : (f p : ℕ) → r ≡ Fault f p → LineDone s c start old (Refused f p) new
-        line-fault f p j = record { told = λ x k. rw (at-line x k) (fault-told (lineFrom h (take (b - a) (drop a s)) start) (sym j ∙ e)); row = λ x k. rw (at-line x k) w }
-          where
-            fault-told : (v : Read (List ℕ)) → Fault f p ≡ told v → Refused f p ≡ lineAnswer v
-            fault-told (read cs q) y = absurd (let z : _≡_ {A = ℕ} 0 1 = cc in omega arith)
-            fault-told (fault g q) y = cc
+          pub line-fault : (f p : ℕ) → r ≡ Fault f p → LineDone s c start old (Refused f p) new
+          line-fault f p j = record { told = λ x k. rw (at-line x k) (fault-told (lineFrom h (take (b - a) (drop a s)) start) (sym j ∙ e)); row = λ x k. rw (at-line x k) w }
+            where
+              fault-told : (v : Read (List ℕ)) → Fault f p ≡ told v → Refused f p ≡ lineAnswer v
+              fault-told (read cs q) y = absurd (let z : _≡_ {A = ℕ} 0 1 = cc in omega arith)
+              fault-told (fault g q) y = cc
 
   -- the frame
   module _ (old : List ℕ) (h : BitmapHeader) (t : HeaderTold s (c .bmhd) h) where
@@ -150,42 +150,42 @@ module _ (s : List ℕ) (c : Contents) (a b : ℕ) (i : c .body ≡ Between a b)
         (e : r ≡ told (linesBy (h .compression) (h .w) (h .planes) (h .planes + pick (eqb (h .masking) 1) 1 0) (take (b - a) (drop a s)) (h .h) 0))
         (w : new ≡ written (linesBy (h .compression) (h .w) (h .planes) (h .planes + pick (eqb (h .masking) 1) 1 0) (take (b - a) (drop a s)) (h .h) 0) old)
       where
-      at-frame :
-          (x : Content) → ContentsAre s c x →
-          frameRead (viewed x) (length old)
-          ≡ leftover (b - a) (linesBy (h .compression) (h .w) (h .planes) (rowsInLine h) (take (b - a) (drop a s)) (h .h) 0)
-      at-frame x k = frame-at x k ∙ rw (eq-eqb _ _ n, lines-are h (take (b - a) (drop a s)) (h .h) 0)
+        at-frame :
+            (x : Content) → ContentsAre s c x →
+            frameRead (viewed x) (length old)
+            ≡ leftover (b - a) (linesBy (h .compression) (h .w) (h .planes) (rowsInLine h) (take (b - a) (drop a s)) (h .h) 0)
+        at-frame x k = frame-at x k ∙ rw (eq-eqb _ _ n, lines-are h (take (b - a) (drop a s)) (h .h) 0)
 
-      left-written : (m : ℕ) (v : Read (List ℕ)) (o : List ℕ) → written v o ≡ written (leftover m v) o
-      left-written m (read cs q) o = refl
-      left-written m (fault g p) o = refl
+        left-written : (m : ℕ) (v : Read (List ℕ)) (o : List ℕ) → written v o ≡ written (leftover m v) o
+        left-written m (read cs q) o = refl
+        left-written m (fault g p) o = refl
 
-      frame-row : (x : Content) → ContentsAre s c x → new ≡ written (frameRead (viewed x) (length old)) old
-      frame-row x k =
-          rw (at-frame x k)
-          (w ∙ left-written (b - a) (linesBy (h .compression) (h .w) (h .planes) (rowsInLine h) (take (b - a) (drop a s)) (h .h) 0) old)
+        frame-row : (x : Content) → ContentsAre s c x → new ≡ written (frameRead (viewed x) (length old)) old
+        frame-row x k =
+            rw (at-frame x k)
+            (w ∙ left-written (b - a) (linesBy (h .compression) (h .w) (h .planes) (rowsInLine h) (take (b - a) (drop a s)) (h .h) 0) old)
 
-      pub frame-left : (q m : ℕ) → r ≡ Scanned-next q → m ≡ b - a - q → FrameDone s c old (Leftover m) new
-      frame-left q m j y =
-          record {
-            told = λ x k. rw (at-frame x k) (next-told (linesBy (h .compression) (h .w) (h .planes) (rowsInLine h) (take (b - a) (drop a s)) (h .h) 0) (sym j ∙ e));
-            frame = frame-row
-          }
-        where
-          next-told : (v : Read (List ℕ)) → Scanned-next q ≡ told v → Leftover m ≡ frameAnswer (leftover (b - a) v)
-          next-told (read cs p) z = let u : q ≡ p = cc in ap Leftover (y ∙ ap (λ (o : ℕ). b - a - o) u)
-          next-told (fault f p) z = absurd (let u : _≡_ {A = ℕ} 0 1 = cc in omega arith)
+        pub frame-left : (q m : ℕ) → r ≡ Scanned-next q → m ≡ b - a - q → FrameDone s c old (Leftover m) new
+        frame-left q m j y =
+            record {
+              told = λ x k. rw (at-frame x k) (next-told (linesBy (h .compression) (h .w) (h .planes) (rowsInLine h) (take (b - a) (drop a s)) (h .h) 0) (sym j ∙ e));
+              frame = frame-row;
+            }
+          where
+            next-told : (v : Read (List ℕ)) → Scanned-next q ≡ told v → Leftover m ≡ frameAnswer (leftover (b - a) v)
+            next-told (read cs p) z = let u : q ≡ p = cc in ap Leftover (y ∙ ap (λ (o : ℕ). b - a - o) u)
+            next-told (fault f p) z = absurd (let u : _≡_ {A = ℕ} 0 1 = cc in omega arith)
 
-      pub frame-fault : (f p : ℕ) → r ≡ Fault f p → FrameDone s c old (Frame-refused f p) new
-      frame-fault f p j =
-          record {
-            told = λ x k. rw (at-frame x k) (fault-told (linesBy (h .compression) (h .w) (h .planes) (rowsInLine h) (take (b - a) (drop a s)) (h .h) 0) (sym j ∙ e));
-            frame = frame-row
-          }
-        where
-          fault-told : (v : Read (List ℕ)) → Fault f p ≡ told v → Frame-refused f p ≡ frameAnswer (leftover (b - a) v)
-          fault-told (read cs q) z = absurd (let u : _≡_ {A = ℕ} 0 1 = cc in omega arith)
-          fault-told (fault g q) z = cc
+        pub frame-fault : (f p : ℕ) → r ≡ Fault f p → FrameDone s c old (Frame-refused f p) new
+        frame-fault f p j =
+            record {
+              told = λ x k. rw (at-frame x k) (fault-told (linesBy (h .compression) (h .w) (h .planes) (rowsInLine h) (take (b - a) (drop a s)) (h .h) 0) (sym j ∙ e));
+              frame = frame-row;
+            }
+          where
+            fault-told : (v : Read (List ℕ)) → Fault f p ≡ told v → Frame-refused f p ≡ frameAnswer (leftover (b - a) v)
+            fault-told (read cs q) z = absurd (let u : _≡_ {A = ℕ} 0 1 = cc in omega arith)
+            fault-told (fault g q) z = cc
 
 module _ (s : List ℕ) (c : Contents) (i : c .body ≡ Nothing) where
   pub line-25 : (start : ℕ) (old : List ℕ) → LineDone s c start old (Refused 25 0) old

@@ -1,15 +1,15 @@
 // The picture of a given number: judged, and its content told as parts of the file.
-use content::content_at;
 use content::Contents;
 use content::Held;
+use content::content_at;
 use fields::bitmap_header;
 use ilbm::BitmapHeader;
-use locate::seek;
 use locate::Spot;
+use locate::seek;
 use members::Part;
+use tree::Verdict;
 use tree::check;
 use tree::size_at;
-use tree::Verdict;
 ghost use mathlib.Core.Path.{_≡_};
 ghost use Prim.Native.Nat.{ℕ, _+_, _≤_};
 ghost use Rattle.ilbm.specs.Pictures.{headerFault, viewOf};
