@@ -1,5 +1,6 @@
 /*
- * florinhado: the chunk trees of EA IFF 85, judged by a proved library.
+ * florinhado: the chunk trees and FORM ILBM pictures of EA IFF 85, read by a
+ * proved library.
  *
  * Link with target/staticlib/libflorinhado.a (x86-64 Linux); the calls need
  * nothing else, allocate nothing and keep no pointer.
@@ -7,7 +8,7 @@
  * All calls:
  *   - take any bytes, and end;
  *   - return 0, or the number of a refusal (the table below);
- *   - read a file, given by a pointer and a length, and don't change it;
+ *   - read a file or a row, given by a pointer and a length, and don't change it;
  *   - write every number that a pointer is passed for, after a refusal too.
  *     `place` is then the place that the refusal speaks of, and 0 otherwise;
  *     the other numbers are 0 after a refusal;
@@ -120,6 +121,152 @@ size_t iff_clean_copy(const uint8_t *file, size_t file_length, uint8_t *out,
  */
 size_t iff_count_pictures(const uint8_t *file, size_t file_length,
                           size_t *place, size_t *pictures);
+
+/*
+ * Refusals of pictures, after those of the structure, in the order of their
+ * checks; all with place 0.
+ *
+ *   20  no such picture
+ *   21  no BMHD counts
+ *   22  more than one BODY directly in the FORM
+ *   23  a property that counts has a wrong size (BMHD 20, CMAP a multiple of 3,
+ *       GRAB 4, DEST 8, SPRT 2, CAMG 4)
+ *   24  more than 8 planes, masking over 3, compression over 1, or a BODY with
+ *       a width, height or number of planes of 0
+ *
+ * Pictures have the numbers from 0 in file order. A property counts if it
+ * stands directly in the picture's FORM before the first BODY; of several the
+ * last, and if there is none, the last one in the PROP ILBM of the nearest LIST
+ * around the FORM that has a PROP ILBM. Each is told with its origin:
+ */
+enum {
+    ILBM_ABSENT = 0, /* no such property counts; its fields are 0 */
+    ILBM_OWN = 1,    /* the FORM's own */
+    ILBM_SHARED = 2  /* the PROP's */
+};
+
+/*
+ * The calls for the properties below take and tell these beside the fields.
+ * Refusals: 1 to 12, then 20 to 24.
+ *
+ *   file, file_length  the file
+ *   picture            the picture's number
+ *   place              out: the place of a refusal
+ *   origin             out: one of the origins above; 0 after a refusal
+ *   shared             out: where the PROP's header stands; 0 unless shared
+ */
+
+/*
+ * Tells the header that counts, BMHD.
+ *
+ *   w, h                     out: pixels in a row, and rows
+ *   x, y                     out: the picture's place on its page
+ *   planes                   out: planes, without a mask
+ *   masking                  out: 0 none, 1 mask plane, 2 transparent colour, 3 lasso
+ *   compression              out: 0 none, 1 ByteRun1
+ *   pad1                     out: a byte without meaning
+ *   transparent              out: the transparent colour's number
+ *   x_aspect, y_aspect       out: a pixel's width and height, one beside the other
+ *   page_width, page_height  out: the size of the page
+ */
+size_t ilbm_header(const uint8_t *file, size_t file_length, size_t picture,
+                   size_t *place, uint16_t *w, uint16_t *h, int16_t *x,
+                   int16_t *y, uint8_t *planes, uint8_t *masking,
+                   uint8_t *compression, uint8_t *pad1, uint16_t *transparent,
+                   uint8_t *x_aspect, uint8_t *y_aspect, int16_t *page_width,
+                   int16_t *page_height, size_t *origin, size_t *shared);
+
+/*
+ * Tells the hot spot that counts, GRAB.
+ *
+ *   x, y  out: from the picture's upper left corner, right and down
+ */
+size_t ilbm_grab(const uint8_t *file, size_t file_length, size_t picture,
+                 size_t *place, int16_t *x, int16_t *y, size_t *origin,
+                 size_t *shared);
+
+/*
+ * Tells the destination that counts, DEST.
+ *
+ *   depth         out: planes of the destination
+ *   pad1          out: a byte without meaning
+ *   plane_pick    out: the planes that the picture's planes go to
+ *   plane_on_off  out: what the other planes are filled with
+ *   plane_mask    out: the planes that may be written to
+ */
+size_t ilbm_dest(const uint8_t *file, size_t file_length, size_t picture,
+                 size_t *place, uint8_t *depth, uint8_t *pad1,
+                 uint16_t *plane_pick, uint16_t *plane_on_off,
+                 uint16_t *plane_mask, size_t *origin, size_t *shared);
+
+/*
+ * Tells the sprite precedence that counts, SPRT.
+ *
+ *   sprite  out: the precedence
+ */
+size_t ilbm_sprite(const uint8_t *file, size_t file_length, size_t picture,
+                   size_t *place, uint16_t *sprite, size_t *origin,
+                   size_t *shared);
+
+/*
+ * Tells the view modes that count, CAMG.
+ *
+ *   view_mode  out: the mode's bits
+ */
+size_t ilbm_view_mode(const uint8_t *file, size_t file_length, size_t picture,
+                      size_t *place, uint32_t *view_mode, size_t *origin,
+                      size_t *shared);
+
+/*
+ * Tells where the palette that counts lies in the file, CMAP: three bytes a
+ * colour, red, green, blue. With the origin 0 and the answer 0 none counts, and
+ * the palette is the caller's own default.
+ *
+ *   from, to  out: the palette is file[from] to file[to - 1]; 0 and 0 if none
+ *             counts
+ */
+size_t ilbm_palette(const uint8_t *file, size_t file_length, size_t picture,
+                    size_t *place, size_t *origin, size_t *shared,
+                    size_t *from, size_t *to);
+
+/*
+ * Writes the colour numbers of one scan line, a byte a pixel. Refusals: those
+ * of a picture, then 25 for no BODY, 29 for a start beyond the BODY's end, 28
+ * if the row hasn't w bytes, 27 for a copy or repeat that oversteps its plane
+ * row, 26 if the BODY ends too early. 26 and 27 are told with a place counted
+ * from the BODY's start. A refusal changes no byte of the row.
+ *
+ *   start            where the line starts in the BODY, 0 for the first one
+ *   row, row_length  the row
+ *   next             out: where the next line starts
+ */
+size_t ilbm_line(const uint8_t *file, size_t file_length, size_t picture,
+                 size_t start, uint8_t *row, size_t row_length, size_t *place,
+                 size_t *next);
+
+/*
+ * Writes the colour numbers of all scan lines, line by line. Refusals: those of
+ * ilbm_line but 29, and 28 if the frame hasn't w times h bytes. A refusal
+ * changes no byte of the frame.
+ *
+ *   frame, frame_length  the frame
+ *   leftover             out: the bytes of the BODY after the last line
+ */
+size_t ilbm_frame(const uint8_t *file, size_t file_length, size_t picture,
+                  uint8_t *frame, size_t frame_length, size_t *place,
+                  size_t *leftover);
+
+/*
+ * Packs one row by ByteRun1. Refusals: 31 if the row hasn't 1 to 8,192 bytes,
+ * then 32 if the result is longer than the buffer. row_length +
+ * (row_length + 127) / 128 bytes are always enough.
+ *
+ *   row, row_length  the row
+ *   out, out_length  the buffer
+ *   length           out: the length of the result
+ */
+size_t byterun_pack(const uint8_t *row, size_t row_length, uint8_t *out,
+                    size_t out_length, size_t *length);
 
 #ifdef __cplusplus
 }

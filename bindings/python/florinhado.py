@@ -1,4 +1,4 @@
-"""The chunk trees of EA IFF 85, judged by a proved library.
+"""The chunk trees and FORM ILBM pictures of EA IFF 85, read by a proved library.
 
 Run build.sh once; it makes the shared object that is loaded here. The
 environment's FLORINHADO may name another one.
@@ -9,6 +9,12 @@ Accepted(chunks=1, end=12, trailing=0)
 Traceback (most recent call last):
     ...
 florinhado.Refused: refusal 7 at 0: size greater than what the group or file has left
+>>> header(b"FORM\\0\\0\\0\\x04ILBM", 0)
+Traceback (most recent call last):
+    ...
+florinhado.Refused: refusal 21 at 0: no BMHD counts
+>>> pack(bytes(4)).hex()
+'fd00'
 """
 
 import ctypes
@@ -32,6 +38,17 @@ MEANINGS = {
     12: "second PROP of the same type in this LIST",
     14: "no such record",
     15: "a group, where a local chunk or filler is asked for",
+    20: "no such picture",
+    21: "no BMHD counts",
+    22: "more than one BODY directly in the FORM",
+    23: "a property has a wrong size",
+    24: "a header field is out of range, or 0 with a BODY",
+    25: "rows asked and no BODY",
+    26: "the BODY ends before the row is full",
+    27: "a copy or repeat oversteps its row",
+    28: "row or frame of a wrong length",
+    29: "start place beyond the BODY's end",
+    31: "a row to pack has 1 to 8,192 bytes",
     32: "result longer than the buffer",
 }
 
@@ -74,6 +91,60 @@ class Record(NamedTuple):
     size: int
 
 
+class Origin(enum.IntEnum):
+    """Where a property comes from: nowhere, the FORM itself, or a PROP."""
+
+    ABSENT = 0
+    OWN = 1
+    SHARED = 2
+
+
+class Property(NamedTuple):
+    """A property: its value, its origin, and the place of the PROP that shares it.
+
+    The fields of an absent one are 0, and so is the place unless it is shared.
+    """
+
+    value: object
+    origin: Origin
+    shared: int
+
+
+class Header(NamedTuple):
+    """The fields of BMHD."""
+
+    width: int
+    height: int
+    x: int
+    y: int
+    planes: int
+    masking: int
+    compression: int
+    pad1: int
+    transparent: int
+    x_aspect: int
+    y_aspect: int
+    page_width: int
+    page_height: int
+
+
+class HotSpot(NamedTuple):
+    """The fields of GRAB."""
+
+    x: int
+    y: int
+
+
+class Destination(NamedTuple):
+    """The fields of DEST."""
+
+    depth: int
+    pad1: int
+    plane_pick: int
+    plane_on_off: int
+    plane_mask: int
+
+
 def _load():
     root = pathlib.Path(__file__).resolve().parents[2]
     made = root / "target" / "python" / "libflorinhado.so"
@@ -81,58 +152,71 @@ def _load():
 
 
 _SIZE = ctypes.c_size_t
-_FILE = [ctypes.c_char_p, _SIZE]
-_NUMBER = ctypes.POINTER(_SIZE)
-_NAME = ctypes.POINTER(ctypes.c_uint32)
+_BYTE, _WORD, _LONG, _SIGNED = ctypes.c_uint8, ctypes.c_uint16, ctypes.c_uint32, ctypes.c_int16
+_BYTES = [ctypes.c_char_p, _SIZE]
 
 
-def _declare(name, kinds):
+def _declare(name, given, told, placed=True):
+    """A call that is given these and tells numbers of these kinds.
+
+    It raises Refused, with the first number as the place if it is `placed`,
+    or gives the list of the others.
+    """
     call = getattr(_LIBRARY, name)
-    call.argtypes = kinds
-    call.restype = ctypes.c_size_t
-    return call
+    kinds = [_SIZE] * placed + told
+    call.argtypes = given + [ctypes.POINTER(kind) for kind in kinds]
+    call.restype = _SIZE
+
+    def ask(*values):
+        numbers = [kind() for kind in kinds]
+        answer = call(*values, *map(ctypes.byref, numbers))
+        values = [number.value for number in numbers]
+        place = values.pop(0) if placed else 0
+        if answer:
+            raise Refused(answer, place)
+        return values
+
+    return ask
 
 
 _LIBRARY = _load()
-_iff_check = _declare("iff_check", _FILE + [_NUMBER] * 4)
-_iff_record = _declare("iff_record", _FILE + [_SIZE] + [_NUMBER] * 3 + [_NAME] + [_NUMBER] * 2)
-_iff_data = _declare("iff_data", _FILE + [_SIZE] + [_NUMBER] * 3)
-_iff_clean_copy = _declare("iff_clean_copy", _FILE + [ctypes.c_char_p, _SIZE] + [_NUMBER] * 2)
-_iff_count_pictures = _declare("iff_count_pictures", _FILE + [_NUMBER] * 2)
+_iff_check = _declare("iff_check", _BYTES, [_SIZE] * 3)
+_iff_record = _declare("iff_record", _BYTES + [_SIZE], [_SIZE] * 2 + [_LONG] + [_SIZE] * 2)
+_iff_data = _declare("iff_data", _BYTES + [_SIZE], [_SIZE] * 2)
+_iff_clean_copy = _declare("iff_clean_copy", _BYTES * 2, [_SIZE])
+_iff_count_pictures = _declare("iff_count_pictures", _BYTES, [_SIZE])
 
-
-def _ask(call, file, *given, told):
-    """Makes a call that tells a place and so many numbers; gives the numbers."""
-    numbers = [ctypes.c_size_t() for _ in range(1 + told)]
-    pointers = [ctypes.byref(number) for number in numbers]
-    answer = call(file, len(file), *given, *pointers)
-    place, *values = [number.value for number in numbers]
-    if answer:
-        raise Refused(answer, place)
-    return values
+# calls on a picture: the fields, their origin and the PROP's place
+_PICTURE, _ORIGIN = _BYTES + [_SIZE], [_SIZE] * 2
+_HEADER = [_WORD] * 2 + [_SIGNED] * 2 + [_BYTE] * 4 + [_WORD] + [_BYTE] * 2 + [_SIGNED] * 2
+_ilbm_header = _declare("ilbm_header", _PICTURE, _HEADER + _ORIGIN)
+_ilbm_grab = _declare("ilbm_grab", _PICTURE, [_SIGNED] * 2 + _ORIGIN)
+_ilbm_dest = _declare("ilbm_dest", _PICTURE, [_BYTE] * 2 + [_WORD] * 3 + _ORIGIN)
+_ilbm_sprite = _declare("ilbm_sprite", _PICTURE, [_WORD] + _ORIGIN)
+_ilbm_view_mode = _declare("ilbm_view_mode", _PICTURE, [_LONG] + _ORIGIN)
+_ilbm_palette = _declare("ilbm_palette", _PICTURE, _ORIGIN + [_SIZE] * 2)
+_ilbm_line = _declare("ilbm_line", _PICTURE + [_SIZE] + _BYTES, [_SIZE])
+_ilbm_frame = _declare("ilbm_frame", _PICTURE + _BYTES, [_SIZE])
+_byterun_pack = _declare("byterun_pack", _BYTES * 2, [_SIZE], placed=False)
 
 
 def check(file):
     """Accepts the bytes of a file, or raises Refused with one of 1 to 12."""
-    return Accepted(*_ask(_iff_check, bytes(file), told=3))
+    file = bytes(file)
+    return Accepted(*_iff_check(file, len(file)))
 
 
 def record(file, number):
     """The chunk with this number; Refused with 14 if there is none."""
-    file, name = bytes(file), ctypes.c_uint32()
-    place, level, kind, at, size = [_SIZE() for _ in range(5)]
-    pointers = [ctypes.byref(one) for one in (place, level, kind, name, at, size)]
-    answer = _iff_record(file, len(file), number, *pointers)
-    if answer:
-        raise Refused(answer, place.value)
-    letters = name.value.to_bytes(4, "big")
-    return Record(level.value, Kind(kind.value), letters, at.value, size.value)
+    file = bytes(file)
+    level, kind, name, place, size = _iff_record(file, len(file), number)
+    return Record(level, Kind(kind), name.to_bytes(4, "big"), place, size)
 
 
 def data(file, number):
     """The data of a local chunk or filler; Refused with 14 or 15."""
     file = bytes(file)
-    start, stop = _ask(_iff_data, file, number, told=2)
+    start, stop = _iff_data(file, len(file), number)
     return file[start:stop]
 
 
@@ -140,11 +224,78 @@ def clean_copy(file):
     """The file without trailing bytes and with every pad byte 0."""
     file = bytes(file)
     room = ctypes.create_string_buffer(len(file) or 1)
-    (length,) = _ask(_iff_clean_copy, file, room, len(file), told=1)
+    (length,) = _iff_clean_copy(file, len(file), room, len(file))
     return room.raw[:length]
 
 
 def count_pictures(file):
     """How many FORMs of type ILBM the file has."""
-    (pictures,) = _ask(_iff_count_pictures, bytes(file), told=1)
+    file = bytes(file)
+    (pictures,) = _iff_count_pictures(file, len(file))
     return pictures
+
+
+def _property(call, make, file, picture):
+    file = bytes(file)
+    *fields, origin, shared = call(file, len(file), picture)
+    return Property(make(*fields), Origin(origin), shared)
+
+
+def header(file, picture):
+    """The BMHD that counts for a picture; Refused with 20 to 24."""
+    return _property(_ilbm_header, Header, file, picture)
+
+
+def grab(file, picture):
+    """The GRAB that counts for a picture; Refused with 20 to 24."""
+    return _property(_ilbm_grab, HotSpot, file, picture)
+
+
+def destination(file, picture):
+    """The DEST that counts for a picture; Refused with 20 to 24."""
+    return _property(_ilbm_dest, Destination, file, picture)
+
+
+def sprite(file, picture):
+    """The sprite precedence that counts for a picture; Refused with 20 to 24."""
+    return _property(_ilbm_sprite, int, file, picture)
+
+
+def view_mode(file, picture):
+    """The view modes that count for a picture; Refused with 20 to 24."""
+    return _property(_ilbm_view_mode, int, file, picture)
+
+
+def palette(file, picture, default=b""):
+    """The CMAP that counts for a picture, or the default; Refused with 20 to 24."""
+    file = bytes(file)
+    origin, shared, start, stop = _ilbm_palette(file, len(file), picture)
+    value = file[start:stop] if origin else bytes(default)
+    return Property(value, Origin(origin), shared)
+
+
+def scan_line(file, picture, start=0):
+    """The colour numbers of a scan line, and the next line's place in the BODY."""
+    file = bytes(file)
+    width = header(file, picture).value.w
+    row = ctypes.create_string_buffer(width or 1)
+    (following,) = _ilbm_line(file, len(file), picture, start, row, width)
+    return row.raw[:width], following
+
+
+def frame(file, picture):
+    """The colour numbers of all scan lines; Refused with 20 to 28."""
+    file = bytes(file)
+    told = header(file, picture).value
+    size = told.w * told.h
+    room = ctypes.create_string_buffer(size or 1)
+    _ilbm_frame(file, len(file), picture, room, size)
+    return room.raw[:size]
+
+
+def pack(row):
+    """The row packed by ByteRun1; Refused with 31 unless it has 1 to 8,192 bytes."""
+    row = bytes(row)
+    room = ctypes.create_string_buffer(len(row) + (len(row) + 127) // 128 or 1)
+    (length,) = _byterun_pack(row, len(row), room, len(room))
+    return room.raw[:length]

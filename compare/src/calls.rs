@@ -1,6 +1,7 @@
 //! The calls that are compared.
 
 use crate::{check, copy, data, pictures, record, Outcome, Subject, Tally};
+use crate::{dest, frame, grab, header, line, pack, palette, sprite, view_mode};
 use second::random::Random;
 
 /// One exported call.
@@ -15,4 +16,19 @@ pub struct Call {
     pub run: fn(&[u8]),
 }
 
-pub const CALLS: &[Call] = &[check::CALL, record::CALL, data::CALL, copy::CALL, pictures::CALL];
+pub const CALLS: &[Call] = &[
+    check::CALL,
+    record::CALL,
+    data::CALL,
+    copy::CALL,
+    pictures::CALL,
+    header::CALL,
+    grab::CALL,
+    dest::CALL,
+    sprite::CALL,
+    view_mode::CALL,
+    palette::CALL,
+    line::CALL,
+    frame::CALL,
+    pack::CALL,
+];

@@ -4,14 +4,24 @@ mod borrowed;
 mod calls;
 pub mod fixed;
 pub mod large;
+mod property;
 mod subject;
 mod tally;
 
 mod check;
 mod copy;
 mod data;
+mod dest;
+mod frame;
+mod grab;
+mod header;
+mod line;
+mod pack;
+mod palette;
 mod pictures;
 mod record;
+mod sprite;
+mod view_mode;
 
 pub use calls::{Call, CALLS};
 pub use subject::Subject;

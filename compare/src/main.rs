@@ -10,7 +10,7 @@ use std::process::ExitCode;
 use std::time::Instant;
 
 const SEED: u64 = 1985;
-const FILES: u64 = 200_000;
+const FILES: u64 = 120_000;
 
 /// At most so many bytes of a file are printed.
 const PRINTED: usize = 65_536;

@@ -2,30 +2,34 @@
 
 use crate::{Outcome, Tally, CALLS};
 use second::random::Random;
-use second::{Record, Refused};
+use second::{Properties, Record, Refused};
 
 /// Bytes on either side of the file that belong to nobody.
 const MARGIN: usize = 24;
 
-/// A file among other bytes, and its records by the second reader.
+/// A file among other bytes, with its records and pictures by the second reader.
 pub struct Subject {
     bytes: Vec<u8>,
     /// The numbers of records that are asked for.
     pub asked: Vec<usize>,
     pub records: Result<Vec<Record>, Refused>,
+    /// The pictures that are asked for, and what the second reader tells of them.
+    pub pictures: Vec<(usize, Result<Properties, Refused>)>,
 }
 
 impl Subject {
-    /// The file with every record asked for, one beyond, and the last number.
+    /// The file with every record and picture asked for, one beyond, and the last number.
     pub fn new(random: &mut Random, file: &[u8]) -> Subject {
-        let mut subject = Subject::large(random, file);
-        let count = subject.records.as_ref().map_or(1, Vec::len);
-        subject.asked = (0..=count).chain([usize::MAX]).collect();
-        subject
+        Subject::asking(random, file, |count| (0..=count).chain([usize::MAX]).collect())
     }
 
-    /// The file with only some of its records asked for.
+    /// The file with only some of its records and pictures asked for.
     pub fn large(random: &mut Random, file: &[u8]) -> Subject {
+        Subject::asking(random, file, |count| vec![0, count / 2, count.saturating_sub(1), count])
+    }
+
+    /// The file with these numbers asked for, of so many.
+    fn asking(random: &mut Random, file: &[u8], asked: fn(usize) -> Vec<usize>) -> Subject {
         let mut bytes = random.bytes(MARGIN);
         bytes.extend_from_slice(file);
         // What follows would do as chunks, for a reader that goes too far.
@@ -33,8 +37,10 @@ impl Subject {
         bytes.extend(random.bytes(MARGIN - 8));
         let records = second::records(file);
         let count = records.as_ref().map_or(1, Vec::len);
-        let asked = vec![0, count / 2, count - 1, count];
-        Subject { bytes, asked, records }
+        let mut pictures = asked(second::count_pictures(file).unwrap_or(0));
+        pictures.dedup();
+        let told = |picture| (picture, second::properties(file, picture));
+        Subject { bytes, asked: asked(count), records, pictures: pictures.into_iter().map(told).collect() }
     }
 
     pub fn file(&self) -> &[u8] {

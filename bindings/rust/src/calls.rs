@@ -50,6 +50,113 @@ mod exported {
             place: &mut usize,
             pictures: &mut usize,
         ) -> usize;
+
+        pub fn ilbm_header(
+            file: *const u8,
+            file_length: usize,
+            picture: usize,
+            place: &mut usize,
+            w: &mut u16,
+            h: &mut u16,
+            x: &mut i16,
+            y: &mut i16,
+            planes: &mut u8,
+            masking: &mut u8,
+            compression: &mut u8,
+            pad1: &mut u8,
+            transparent: &mut u16,
+            x_aspect: &mut u8,
+            y_aspect: &mut u8,
+            page_width: &mut i16,
+            page_height: &mut i16,
+            origin: &mut usize,
+            shared: &mut usize,
+        ) -> usize;
+
+        pub fn ilbm_grab(
+            file: *const u8,
+            file_length: usize,
+            picture: usize,
+            place: &mut usize,
+            x: &mut i16,
+            y: &mut i16,
+            origin: &mut usize,
+            shared: &mut usize,
+        ) -> usize;
+
+        pub fn ilbm_dest(
+            file: *const u8,
+            file_length: usize,
+            picture: usize,
+            place: &mut usize,
+            depth: &mut u8,
+            pad1: &mut u8,
+            plane_pick: &mut u16,
+            plane_on_off: &mut u16,
+            plane_mask: &mut u16,
+            origin: &mut usize,
+            shared: &mut usize,
+        ) -> usize;
+
+        pub fn ilbm_sprite(
+            file: *const u8,
+            file_length: usize,
+            picture: usize,
+            place: &mut usize,
+            sprite: &mut u16,
+            origin: &mut usize,
+            shared: &mut usize,
+        ) -> usize;
+
+        pub fn ilbm_view_mode(
+            file: *const u8,
+            file_length: usize,
+            picture: usize,
+            place: &mut usize,
+            view_mode: &mut u32,
+            origin: &mut usize,
+            shared: &mut usize,
+        ) -> usize;
+
+        pub fn ilbm_palette(
+            file: *const u8,
+            file_length: usize,
+            picture: usize,
+            place: &mut usize,
+            origin: &mut usize,
+            shared: &mut usize,
+            from: &mut usize,
+            to: &mut usize,
+        ) -> usize;
+
+        pub fn ilbm_line(
+            file: *const u8,
+            file_length: usize,
+            picture: usize,
+            start: usize,
+            row: *mut u8,
+            row_length: usize,
+            place: &mut usize,
+            next: &mut usize,
+        ) -> usize;
+
+        pub fn ilbm_frame(
+            file: *const u8,
+            file_length: usize,
+            picture: usize,
+            frame: *mut u8,
+            frame_length: usize,
+            place: &mut usize,
+            leftover: &mut usize,
+        ) -> usize;
+
+        pub fn byterun_pack(
+            row: *const u8,
+            row_length: usize,
+            out: *mut u8,
+            out_length: usize,
+            length: &mut usize,
+        ) -> usize;
     }
 }
 
@@ -97,4 +204,170 @@ pub fn iff_clean_copy(file: &[u8], out: &mut [u8], place: &mut usize, length: &m
 /// Counts the pictures: 0, or 1 to 12 with the place.
 pub fn iff_count_pictures(file: &[u8], place: &mut usize, pictures: &mut usize) -> usize {
     unsafe { exported::iff_count_pictures(file.as_ptr(), file.len(), place, pictures) }
+}
+
+/// Tells the BMHD that counts for a picture: 0, or 1 to 12 with the place, or 20 to 24.
+/// The origin is 1 own, 2 shared by the PROP at `shared`, 0 absent.
+#[allow(clippy::too_many_arguments)]
+pub fn ilbm_header(
+    file: &[u8],
+    picture: usize,
+    place: &mut usize,
+    w: &mut u16,
+    h: &mut u16,
+    x: &mut i16,
+    y: &mut i16,
+    planes: &mut u8,
+    masking: &mut u8,
+    compression: &mut u8,
+    pad1: &mut u8,
+    transparent: &mut u16,
+    x_aspect: &mut u8,
+    y_aspect: &mut u8,
+    page_width: &mut i16,
+    page_height: &mut i16,
+    origin: &mut usize,
+    shared: &mut usize,
+) -> usize {
+    unsafe {
+        exported::ilbm_header(
+            file.as_ptr(),
+            file.len(),
+            picture,
+            place,
+            w,
+            h,
+            x,
+            y,
+            planes,
+            masking,
+            compression,
+            pad1,
+            transparent,
+            x_aspect,
+            y_aspect,
+            page_width,
+            page_height,
+            origin,
+            shared,
+        )
+    }
+}
+
+/// Tells the GRAB that counts for a picture: 0, or 1 to 12 with the place, or 20 to 24.
+/// The origin is as above; the fields of an absent property are 0.
+pub fn ilbm_grab(
+    file: &[u8],
+    picture: usize,
+    place: &mut usize,
+    x: &mut i16,
+    y: &mut i16,
+    origin: &mut usize,
+    shared: &mut usize,
+) -> usize {
+    unsafe { exported::ilbm_grab(file.as_ptr(), file.len(), picture, place, x, y, origin, shared) }
+}
+
+/// Tells the DEST that counts for a picture: 0, or 1 to 12 with the place, or 20 to 24.
+/// The origin is as above; the fields of an absent property are 0.
+#[allow(clippy::too_many_arguments)]
+pub fn ilbm_dest(
+    file: &[u8],
+    picture: usize,
+    place: &mut usize,
+    depth: &mut u8,
+    pad1: &mut u8,
+    plane_pick: &mut u16,
+    plane_on_off: &mut u16,
+    plane_mask: &mut u16,
+    origin: &mut usize,
+    shared: &mut usize,
+) -> usize {
+    unsafe {
+        exported::ilbm_dest(
+            file.as_ptr(),
+            file.len(),
+            picture,
+            place,
+            depth,
+            pad1,
+            plane_pick,
+            plane_on_off,
+            plane_mask,
+            origin,
+            shared,
+        )
+    }
+}
+
+/// Tells the SPRT that counts for a picture: 0, or 1 to 12 with the place, or 20 to 24.
+/// The origin is as above; the fields of an absent property are 0.
+pub fn ilbm_sprite(
+    file: &[u8],
+    picture: usize,
+    place: &mut usize,
+    sprite: &mut u16,
+    origin: &mut usize,
+    shared: &mut usize,
+) -> usize {
+    unsafe { exported::ilbm_sprite(file.as_ptr(), file.len(), picture, place, sprite, origin, shared) }
+}
+
+/// Tells the CAMG that counts for a picture: 0, or 1 to 12 with the place, or 20 to 24.
+/// The origin is as above; the fields of an absent property are 0.
+pub fn ilbm_view_mode(
+    file: &[u8],
+    picture: usize,
+    place: &mut usize,
+    view_mode: &mut u32,
+    origin: &mut usize,
+    shared: &mut usize,
+) -> usize {
+    unsafe { exported::ilbm_view_mode(file.as_ptr(), file.len(), picture, place, view_mode, origin, shared) }
+}
+
+/// Tells where the CMAP that counts for a picture lies in the file: 0, or 1 to
+/// 12 with the place, or 20 to 24. With the origin 0 it lies nowhere.
+pub fn ilbm_palette(
+    file: &[u8],
+    picture: usize,
+    place: &mut usize,
+    origin: &mut usize,
+    shared: &mut usize,
+    from: &mut usize,
+    to: &mut usize,
+) -> usize {
+    unsafe { exported::ilbm_palette(file.as_ptr(), file.len(), picture, place, origin, shared, from, to) }
+}
+
+/// Writes the colour numbers of a scan line from a place of the BODY.
+pub fn ilbm_line(
+    file: &[u8],
+    picture: usize,
+    start: usize,
+    row: &mut [u8],
+    place: &mut usize,
+    next: &mut usize,
+) -> usize {
+    unsafe {
+        exported::ilbm_line(file.as_ptr(), file.len(), picture, start, row.as_mut_ptr(), row.len(), place, next)
+    }
+}
+
+/// Writes the colour numbers of all scan lines.
+pub fn ilbm_frame(
+    file: &[u8],
+    picture: usize,
+    frame: &mut [u8],
+    place: &mut usize,
+    leftover: &mut usize,
+) -> usize {
+    unsafe {
+        exported::ilbm_frame(file.as_ptr(), file.len(), picture, frame.as_mut_ptr(), frame.len(), place, leftover)
+    }
+}
+
+/// Packs a row: 0, or 31 or 32.
+pub fn byterun_pack(row: &[u8], out: &mut [u8], length: &mut usize) -> usize {
+    unsafe { exported::byterun_pack(row.as_ptr(), row.len(), out.as_mut_ptr(), out.len(), length) }
 }

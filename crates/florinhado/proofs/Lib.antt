@@ -1,2 +1,3 @@
+pub mod Properties
 pub mod Told
 pub mod RowsTold

@@ -10,9 +10,11 @@ use Rattle.listing.specs.declared.Extent.{Extent}
 use Rattle.listing.specs.declared.Extent.the-variants.{Data, Refused as Extent-refused}
 use Rattle.copy.specs.declared.Copied.{Copied}
 use Rattle.copy.specs.declared.Copied.the-variants.{Written, Refused as Copied-refused}
+use Rattle.pack.specs.declared.PackAnswer.{PackAnswer}
+use Rattle.pack.specs.declared.PackAnswer.the-variants.{Written as Pack-written, BadLength, NoRoom}
 use Rattle.count.specs.declared.Counted.{Counted}
 use Rattle.count.specs.declared.Counted.the-variants.{Pictures, Refused as Counted-refused}
-use Rattle.florinhado.specs.Numbers.{CheckTold, checkTold, kindNumber, RecordTold, recordTold, DataTold, dataTold, OneTold, copyTold, countTold}
+use Rattle.florinhado.specs.Numbers.{CheckTold, checkTold, kindNumber, RecordTold, recordTold, DataTold, dataTold, OneTold, copyTold, countTold, PackTold, packTold}
 
 module _ (x v : Verdict) (a : v ≡ x) where
   pub check-accepted :
@@ -66,3 +68,16 @@ module _ (x v : Counted) (a : v ≡ x) where
   pub count-refused : (k p : ℕ) → v ≡ Counted-refused k p → _≡_ {A = OneTold} (record { number = k; place = p; value = 0 }) (countTold x)
   unfolding countTold
   count-refused k p b = rw (sym a ∙ b)
+
+module _ (x v : PackAnswer) (a : v ≡ x) where
+  pub pack-written : (n : ℕ) → v ≡ Pack-written n → _≡_ {A = PackTold} (record { number = 0; value = n }) (packTold x)
+  unfolding packTold
+  pack-written n b = rw (sym a ∙ b)
+
+  pub pack-bad-length : v ≡ BadLength → _≡_ {A = PackTold} (record { number = 31; value = 0 }) (packTold x)
+  unfolding packTold
+  pack-bad-length b = rw (sym a ∙ b)
+
+  pub pack-no-room : v ≡ NoRoom → _≡_ {A = PackTold} (record { number = 32; value = 0 }) (packTold x)
+  unfolding packTold
+  pack-no-room b = rw (sym a ∙ b)

@@ -11,6 +11,8 @@ use Rattle.listing.specs.declared.Extent.{Extent}
 use Rattle.listing.specs.declared.Extent.the-variants.{Data, Refused as Extent-refused}
 use Rattle.copy.specs.declared.Copied.{Copied}
 use Rattle.copy.specs.declared.Copied.the-variants.{Written, Refused as Copied-refused}
+use Rattle.pack.specs.declared.PackAnswer.{PackAnswer}
+use Rattle.pack.specs.Pack.{numberOf, lengthOf}
 use Rattle.count.specs.declared.Counted.{Counted}
 use Rattle.count.specs.declared.Counted.the-variants.{Pictures, Refused as Counted-refused}
 
@@ -72,3 +74,11 @@ copyTold (Copied-refused k p) = record { number = k; place = p; value = 0 }
 unfoldable pub countTold : Counted → OneTold
 countTold (Pictures n) = record { number = 0; place = 0; value = n }
 countTold (Counted-refused k p) = record { number = k; place = p; value = 0 }
+
+-- a call whose refusals have no place
+pub record PackTold : Type 0 where
+  pub number : ℕ
+  pub value : ℕ
+
+unfoldable pub packTold : PackAnswer → PackTold
+packTold a = record { number = numberOf a; value = lengthOf a }

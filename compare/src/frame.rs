@@ -1,0 +1,40 @@
+//! ilbm_frame.
+
+use crate::borrowed::{numbers, refused, same, Buffer};
+use crate::{Call, Outcome, Subject, Tally};
+use florinhado::calls;
+use second::generate::query;
+use second::random::Random;
+
+const NAME: &str = "ilbm_frame";
+
+/// Every number that a call on a frame can answer: 29 is a start place's.
+const NUMBERS: &[usize] = &[0, 1, 2, 3, 4, 5, 6, 7, 8, 9, 10, 11, 12, 20, 21, 22, 23, 24, 25, 26, 27, 28];
+
+pub const CALL: Call = Call { name: NAME, numbers: NUMBERS, compare, run };
+
+/// The file may have no such picture.
+fn run(file: &[u8]) {
+    let _ = florinhado::frame(file, 0, &mut [0; 64000]);
+}
+
+fn compare(subject: &Subject, random: &mut Random, tally: &mut Tally) -> Outcome {
+    let file = subject.file();
+    let asked = query(random, file);
+    let wanted = second::frame(file, asked.picture, asked.frame_length).map_err(refused);
+    let result = wanted.as_ref().map_or(&[][..], |frame| &frame.colours);
+    let [mut place, mut leftover] = numbers(random);
+    let mut buffer = Buffer::new(random, asked.frame_length);
+    let answer = calls::ilbm_frame(file, asked.picture, buffer.slice(), &mut place, &mut leftover);
+    tally.add(NAME, answer);
+    let told = match &wanted {
+        Ok(frame) => [0, 0, frame.leftover],
+        Err(refused) => [refused.number, refused.place, 0],
+    };
+    same("number, place, leftover", [answer, place, leftover], told)?;
+    buffer.compare(result)?;
+    let mut buffer = Buffer::new(random, asked.frame_length);
+    let ours = florinhado::frame(file, asked.picture, buffer.slice());
+    same("frame", ours, wanted.as_ref().map(|frame| frame.leftover).map_err(|refused| *refused))?;
+    buffer.compare(result)
+}

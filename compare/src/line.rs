@@ -1,0 +1,41 @@
+//! ilbm_line.
+
+use crate::borrowed::{numbers, refused, same, Buffer};
+use crate::{Call, Outcome, Subject, Tally};
+use florinhado::calls;
+use second::generate::query;
+use second::random::Random;
+
+const NAME: &str = "ilbm_line";
+
+/// Every number that a call on rows can answer.
+pub const NUMBERS: &[usize] =
+    &[0, 1, 2, 3, 4, 5, 6, 7, 8, 9, 10, 11, 12, 20, 21, 22, 23, 24, 25, 26, 27, 28, 29];
+
+pub const CALL: Call = Call { name: NAME, numbers: NUMBERS, compare, run };
+
+/// The file may have no such picture.
+fn run(file: &[u8]) {
+    let _ = florinhado::scan_line(file, 0, 0, &mut [0; 320]);
+}
+
+fn compare(subject: &Subject, random: &mut Random, tally: &mut Tally) -> Outcome {
+    let file = subject.file();
+    let asked = query(random, file);
+    let wanted = second::scan_line(file, asked.picture, asked.start, asked.row_length).map_err(refused);
+    let result = wanted.as_ref().map_or(&[][..], |line| &line.colours);
+    let [mut place, mut next] = numbers(random);
+    let mut buffer = Buffer::new(random, asked.row_length);
+    let answer = calls::ilbm_line(file, asked.picture, asked.start, buffer.slice(), &mut place, &mut next);
+    tally.add(NAME, answer);
+    let told = match &wanted {
+        Ok(line) => [0, 0, line.next],
+        Err(refused) => [refused.number, refused.place, 0],
+    };
+    same("number, place, next", [answer, place, next], told)?;
+    buffer.compare(result)?;
+    let mut buffer = Buffer::new(random, asked.row_length);
+    let ours = florinhado::scan_line(file, asked.picture, asked.start, buffer.slice());
+    same("scan_line", ours, wanted.as_ref().map(|line| line.next).map_err(|refused| *refused))?;
+    buffer.compare(result)
+}

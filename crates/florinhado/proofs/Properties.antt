@@ -1,0 +1,175 @@
+-- What is told of a picture's properties, once the case of the answer is known.
+use Prim.Native.Nat.{ℕ, _-_, _≤_}
+use mathlib.Core.Path.{_≡_, refl, sym, ap, _∙_}
+use mathlib.Core.List.{List}
+use lib.IntN.{ℤ, pos}
+use lib.ListN.{length, take, drop}
+use native.Mathlib.Omega.{arith}
+use mir.Syntax.{w16}
+use mir.Val.{toZ, ofZ, SFits}
+use mir.Facts.{toZ-ofZ}
+use Rattle.ilbm.specs.declared.Picture.{Picture}
+use Rattle.ilbm.specs.declared.PictureAnswer.{PictureAnswer}
+use Rattle.ilbm.specs.declared.PictureAnswer.the-variants.{Shown, Refused}
+use Rattle.ilbm.specs.Contents.{Property, own, shared, absent, Content}
+use Rattle.ilbm.specs.Pictures.{Viewed, viewed, unseen, originOf, viewOf}
+use mathlib.Core.Option.{some}
+use Rattle.members.specs.Members.{Shows}
+use Rattle.members.specs.declared.Part.{Part}
+use Rattle.members.specs.declared.Part.the-variants.{Nothing, Between}
+use Rattle.content.specs.declared.Held.{Held}
+use Rattle.content.specs.declared.Contents.{Contents}
+use Rattle.content.specs.Held.{HeldIs, ContentsAre}
+use Rattle.view.specs.declared.View.{View}
+use Rattle.view.specs.declared.View.the-variants.{Seen, Unseen}
+use Rattle.view.specs.Seen.{ViewIs}
+use Rattle.florinhado.specs.declared.HeaderTold.{HeaderTold}
+use Rattle.florinhado.specs.declared.GrabTold.{GrabTold}
+use Rattle.florinhado.specs.declared.DestinationTold.{DestinationTold}
+use Rattle.florinhado.specs.declared.SpriteTold.{SpriteTold}
+use Rattle.florinhado.specs.declared.ViewModeTold.{ViewModeTold}
+use Rattle.florinhado.specs.declared.PaletteParts.{PaletteParts}
+use Rattle.florinhado.specs.Properties.{originNumber, sharedPlace, noHeader, headerTold, grabTold, destinationTold, spriteTold, viewModeTold, PaletteTold, paletteTold, Lies, PaletteLies, fromOf, toOf, paletteParts}
+
+module _ (v : PictureAnswer) (p : Picture) (b : v ≡ Shown p) (k m : ℕ) where
+  pub header-shown :
+      k ≡ originNumber (p .«header_from») → m ≡ sharedPlace (p .«header_from») →
+      _≡_ {A = HeaderTold} (record { number = 0; place = 0; header = p .header; origin = k; shared = m }) (headerTold v)
+  unfolding headerTold
+  header-shown i j = rw (b, i, j)
+
+  pub grab-shown :
+      k ≡ originNumber (p .«grab_from») → m ≡ sharedPlace (p .«grab_from») →
+      _≡_ {A = GrabTold} (record { number = 0; place = 0; grab = p .grab; origin = k; shared = m }) (grabTold v)
+  unfolding grabTold
+  grab-shown i j = rw (b, i, j)
+
+  pub destination-shown :
+      k ≡ originNumber (p .«destination_from») → m ≡ sharedPlace (p .«destination_from») →
+      _≡_ {A = DestinationTold} (record { number = 0; place = 0; destination = p .destination; origin = k; shared = m }) (destinationTold v)
+  unfolding destinationTold
+  destination-shown i j = rw (b, i, j)
+
+  pub sprite-shown :
+      k ≡ originNumber (p .«sprite_from») → m ≡ sharedPlace (p .«sprite_from») →
+      _≡_ {A = SpriteTold} (record { number = 0; place = 0; sprite = p .sprite; origin = k; shared = m }) (spriteTold v)
+  unfolding spriteTold
+  sprite-shown i j = rw (b, i, j)
+
+  pub view-mode-shown :
+      k ≡ originNumber (p .«view_mode_from») → m ≡ sharedPlace (p .«view_mode_from») →
+      _≡_ {A = ViewModeTold} (record { number = 0; place = 0; «view_mode» = p .«view_mode»; origin = k; shared = m }) (viewModeTold v)
+  unfolding viewModeTold
+  view-mode-shown i j = rw (b, i, j)
+
+module _ (v : PictureAnswer) (k m : ℕ) (b : v ≡ Refused k m) where
+  pub header-refused :
+      _≡_ {A = HeaderTold} (record { number = k; place = m; header = noHeader; origin = 0; shared = 0 }) (headerTold v)
+  unfolding headerTold
+  header-refused = rw b
+
+  pub grab-refused :
+      _≡_ {A = GrabTold} (record { number = k; place = m; grab = record { x = pos 0; y = pos 0 }; origin = 0; shared = 0 }) (grabTold v)
+  unfolding grabTold
+  grab-refused = rw b
+
+  pub destination-refused :
+      _≡_ {A = DestinationTold} (record { number = k; place = m; destination = record { depth = 0; pad1 = 0; «plane_pick» = 0; «plane_on_off» = 0; «plane_mask» = 0 }; origin = 0; shared = 0 }) (destinationTold v)
+  unfolding destinationTold
+  destination-refused = rw b
+
+  pub sprite-refused :
+      _≡_ {A = SpriteTold} (record { number = k; place = m; sprite = 0; origin = 0; shared = 0 }) (spriteTold v)
+  unfolding spriteTold
+  sprite-refused = rw b
+
+  pub view-mode-refused :
+      _≡_ {A = ViewModeTold} (record { number = k; place = m; «view_mode» = 0; origin = 0; shared = 0 }) (viewModeTold v)
+  unfolding viewModeTold
+  view-mode-refused = rw b
+
+-- the answer of the picture call, told
+module _ (v a : PictureAnswer) (b : v ≡ a) where
+  pub header-of : (t : HeaderTold) → t ≡ headerTold v → t ≡ headerTold a
+  header-of t e = rw b at e
+
+  pub grab-of : (t : GrabTold) → t ≡ grabTold v → t ≡ grabTold a
+  grab-of t e = rw b at e
+
+  pub destination-of : (t : DestinationTold) → t ≡ destinationTold v → t ≡ destinationTold a
+  destination-of t e = rw b at e
+
+  pub sprite-of : (t : SpriteTold) → t ≡ spriteTold v → t ≡ spriteTold a
+  sprite-of t e = rw b at e
+
+  pub view-mode-of : (t : ViewModeTold) → t ≡ viewModeTold v → t ≡ viewModeTold a
+  view-mode-of t e = rw b at e
+
+-- the signed fields are stored as bits, which give the same numbers again
+pub header-stored :
+    (v a : PictureAnswer) → v ≡ a → (t : HeaderTold) → t ≡ headerTold v → SFits w16 (t .header .x) → SFits w16 (t .header .y) →
+    SFits w16 (t .header .«page_width») → SFits w16 (t .header .«page_height») →
+    _≡_ {A = HeaderTold}
+    (record {
+      number = t .number;
+      place = t .place;
+      header = record {
+        w = t .header .w;
+        h = t .header .h;
+        x = toZ w16 (ofZ w16 (t .header .x));
+        y = toZ w16 (ofZ w16 (t .header .y));
+        planes = t .header .planes;
+        masking = t .header .masking;
+        compression = t .header .compression;
+        pad1 = t .header .pad1;
+        transparent = t .header .transparent;
+        «x_aspect» = t .header .«x_aspect»;
+        «y_aspect» = t .header .«y_aspect»;
+        «page_width» = toZ w16 (ofZ w16 (t .header .«page_width»));
+        «page_height» = toZ w16 (ofZ w16 (t .header .«page_height»));
+      };
+      origin = t .origin;
+      shared = t .shared;
+    })
+    (headerTold a)
+header-stored v a b t e f g h i = rw (toZ-ofZ f, toZ-ofZ g, toZ-ofZ h, toZ-ofZ i) (header-of v a b t e)
+
+-- the parts of a view
+module _ (v : View) (c : Contents) (b : v ≡ Seen c) (k m f t : ℕ) where
+  pub parts-seen :
+      k ≡ originNumber (c .cmap .origin) → m ≡ sharedPlace (c .cmap .origin) → f ≡ fromOf (c .cmap .part) → t ≡ toOf (c .cmap .part) →
+      _≡_ {A = PaletteParts} (record { number = 0; place = 0; origin = k; shared = m; from = f; to = t }) (paletteParts v)
+  unfolding paletteParts
+  parts-seen h i j l = rw (b, h, i, j, l)
+
+pub parts-unseen :
+    (v : View) (k m : ℕ) → v ≡ Unseen k m →
+    _≡_ {A = PaletteParts} (record { number = k; place = m; origin = 0; shared = 0; from = 0; to = 0 }) (paletteParts v)
+unfolding paletteParts
+parts-unseen v k m b = rw b
+
+held-between : (s : List ℕ) (p : Part) (d : List ℕ) → Shows s p (some d) → Shows s (Between (fromOf p) (toOf p)) (some d)
+held-between s Nothing d w = absurd w
+held-between s (Between a b) d w = w
+
+held-lies : (s : List ℕ) (h : Held) (q : Property) → HeldIs s h q → Lies s (fromOf (h .part)) (toOf (h .part)) q
+held-lies s h (own d) k = held-between s (h .part) d (k .1)
+held-lies s h (shared p d) k = held-between s (h .part) d (k .1)
+held-lies s h absent k = rw (k .1) (refl, refl)
+
+origin-is : (s : List ℕ) (h : Held) (q : Property) → HeldIs s h q → h .origin ≡ originOf q
+origin-is s h (own d) k = k .0
+origin-is s h (shared p d) k = k .0
+origin-is s h absent k = k .0
+
+pub palette-lies : (s : List ℕ) (y : Viewed) (v : View) → ViewIs s v y → (r : PaletteParts) → r ≡ paletteParts v → PaletteLies s (r .from) (r .to) y
+unfolding paletteParts
+palette-lies s y (Seen c) (x, e, k, f) r j = rw (e, j) (held-lies s (c .cmap) (x .cmap) (k .cmap))
+palette-lies s y (Unseen k p) e r j = rw (e, j) (refl, refl)
+
+pub palette-told :
+    (s : List ℕ) (y : Viewed) (v : View) → ViewIs s v y → (r : PaletteParts) → r ≡ paletteParts v →
+    _≡_ {A = PaletteTold} (record { number = r .number; place = r .place; origin = r .origin; shared = r .shared }) (paletteTold y)
+unfolding paletteParts paletteTold
+palette-told s y (Seen c) (x, e, k, f) r j = rw (e, j, origin-is s (c .cmap) (x .cmap) (k .cmap))
+palette-told s y (Unseen k p) e r j = rw (e, j)

@@ -1,0 +1,21 @@
+-- What is stored is what `palette_parts` tells of the view: the part holds the data of the CMAP that counts, if one does.
+use borrow.Author.Needs.{needs}
+use Rattle.florinhado.proofs.Properties.{palette-told, palette-lies}
+use Rattle.florinhado.proofs.ilbm_palette.Statement.{statement}
+use Rattle.florinhado.proofs.ilbm_palette.Tie as tie
+use Rattle.florinhado.proofs.ilbm_palette.Reads as reads
+use Rattle.florinhado.proofs.ilbm_palette.Lts as lts
+use Rattle.florinhado.proofs.palette_parts.Reads as palette-parts-reads
+use Rattle.view.proofs.view_picture.Reads as view-picture-reads
+
+view-picture-requires : tie.Need-view-picture-requires
+view-picture-requires c κs = search needs
+
+palette-parts-requires : tie.Need-palette-parts-requires
+palette-parts-requires c κs = search needs
+
+returns : tie.Need-returns
+returns c = search (palette-told, palette-lies, needs)
+
+pub ilbm-palette-spec : {M : Type 1} → statement M
+ilbm-palette-spec = tie.close (tie.spec view-picture-requires palette-parts-requires returns)

@@ -1,0 +1,121 @@
+-- The numbers told of a picture's properties; "any other number told beside it is 0".
+use Prim.Native.Nat.{ℕ}
+use mathlib.Core.Path.{_≡_}
+use mathlib.Core.List.{List}
+use mathlib.Core.Option.{some}
+use lib.IntN.{ℤ, pos}
+use Rattle.ilbm.specs.declared.Origin.{Origin}
+use Rattle.ilbm.specs.declared.Origin.the-variants.{Own, Shared, Absent}
+use Rattle.ilbm.specs.declared.BitmapHeader.{BitmapHeader}
+use Rattle.ilbm.specs.declared.PictureAnswer.{PictureAnswer}
+use Rattle.ilbm.specs.declared.PictureAnswer.the-variants.{Shown, Refused}
+use Rattle.ilbm.specs.Contents.{Property, own, shared, absent}
+use Rattle.ilbm.specs.Pictures.{Viewed, viewed, unseen, originOf}
+use Rattle.members.specs.Members.{Shows}
+use Rattle.members.specs.declared.Part.{Part}
+use Rattle.members.specs.declared.Part.the-variants.{Nothing, Between}
+use Rattle.view.specs.declared.View.{View}
+use Rattle.view.specs.declared.View.the-variants.{Seen, Unseen}
+use Rattle.florinhado.specs.declared.HeaderTold.{HeaderTold}
+use Rattle.florinhado.specs.declared.GrabTold.{GrabTold}
+use Rattle.florinhado.specs.declared.DestinationTold.{DestinationTold}
+use Rattle.florinhado.specs.declared.SpriteTold.{SpriteTold}
+use Rattle.florinhado.specs.declared.ViewModeTold.{ViewModeTold}
+use Rattle.florinhado.specs.declared.PaletteParts.{PaletteParts}
+
+-- "Each property is told with its origin: own, shared with the place of the PROP, or absent": 1, 2 or 0, and the place, 0 unless shared
+abbrev pub originNumber : Origin → ℕ
+originNumber Own = 1
+originNumber (Shared p) = 2
+originNumber Absent = 0
+
+abbrev pub sharedPlace : Origin → ℕ
+sharedPlace Own = 0
+sharedPlace (Shared p) = p
+sharedPlace Absent = 0
+
+-- the fields beside a refusal
+abbrev pub noHeader : BitmapHeader
+noHeader =
+    record {
+      w = 0;
+      h = 0;
+      x = pos 0;
+      y = pos 0;
+      planes = 0;
+      masking = 0;
+      compression = 0;
+      pad1 = 0;
+      transparent = 0;
+      «x_aspect» = 0;
+      «y_aspect» = 0;
+      «page_width» = pos 0;
+      «page_height» = pos 0;
+    }
+
+unfoldable pub headerTold : PictureAnswer → HeaderTold
+headerTold (Shown p) =
+    record { number = 0; place = 0; header = p .header; origin = originNumber (p .«header_from»); shared = sharedPlace (p .«header_from») }
+headerTold (Refused k p) = record { number = k; place = p; header = noHeader; origin = 0; shared = 0 }
+
+unfoldable pub grabTold : PictureAnswer → GrabTold
+grabTold (Shown p) =
+    record { number = 0; place = 0; grab = p .grab; origin = originNumber (p .«grab_from»); shared = sharedPlace (p .«grab_from») }
+grabTold (Refused k p) = record { number = k; place = p; grab = record { x = pos 0; y = pos 0 }; origin = 0; shared = 0 }
+
+unfoldable pub destinationTold : PictureAnswer → DestinationTold
+destinationTold (Shown p) =
+    record { number = 0; place = 0; destination = p .destination; origin = originNumber (p .«destination_from»); shared = sharedPlace (p .«destination_from») }
+destinationTold (Refused k p) = record { number = k; place = p; destination = record { depth = 0; pad1 = 0; «plane_pick» = 0; «plane_on_off» = 0; «plane_mask» = 0 }; origin = 0; shared = 0 }
+
+unfoldable pub spriteTold : PictureAnswer → SpriteTold
+spriteTold (Shown p) =
+    record { number = 0; place = 0; sprite = p .sprite; origin = originNumber (p .«sprite_from»); shared = sharedPlace (p .«sprite_from») }
+spriteTold (Refused k p) = record { number = k; place = p; sprite = 0; origin = 0; shared = 0 }
+
+unfoldable pub viewModeTold : PictureAnswer → ViewModeTold
+viewModeTold (Shown p) =
+    record { number = 0; place = 0; «view_mode» = p .«view_mode»; origin = originNumber (p .«view_mode_from»); shared = sharedPlace (p .«view_mode_from») }
+viewModeTold (Refused k p) = record { number = k; place = p; «view_mode» = 0; origin = 0; shared = 0 }
+
+-- the palette's origin
+pub record PaletteTold : Type 0 where
+  pub number : ℕ
+  pub place : ℕ
+  pub origin : ℕ
+  pub shared : ℕ
+
+unfoldable pub paletteTold : Viewed → PaletteTold
+paletteTold (viewed c) = record { number = 0; place = 0; origin = originNumber (originOf (c .cmap)); shared = sharedPlace (originOf (c .cmap)) }
+paletteTold (unseen k p) = record { number = k; place = p; origin = 0; shared = 0 }
+
+-- "handed back as a part of the slice it came from": the data of the CMAP that counts; 0 and 0 where none counts, and after a refusal
+abbrev pub Lies : List ℕ → ℕ → ℕ → Property → Type 0
+Lies s from to (own d) = Shows s (Between from to) (some d)
+Lies s from to (shared p d) = Shows s (Between from to) (some d)
+Lies s from to absent = (from ≡ 0) × (to ≡ 0)
+
+abbrev pub PaletteLies : List ℕ → ℕ → ℕ → Viewed → Type 0
+PaletteLies s from to (viewed c) = Lies s from to (c .cmap)
+PaletteLies s from to (unseen k p) = (from ≡ 0) × (to ≡ 0)
+
+-- the same of the parts that a view gives
+abbrev pub fromOf : Part → ℕ
+fromOf Nothing = 0
+fromOf (Between a b) = a
+
+abbrev pub toOf : Part → ℕ
+toOf Nothing = 0
+toOf (Between a b) = b
+
+unfoldable pub paletteParts : View → PaletteParts
+paletteParts (Seen c) =
+    record {
+      number = 0;
+      place = 0;
+      origin = originNumber (c .cmap .origin);
+      shared = sharedPlace (c .cmap .origin);
+      from = fromOf (c .cmap .part);
+      to = toOf (c .cmap .part);
+    }
+paletteParts (Unseen k p) = record { number = k; place = p; origin = 0; shared = 0; from = 0; to = 0 }
