@@ -167,9 +167,9 @@ def _declare(name, given, told, placed=True):
     call.argtypes = given + [ctypes.POINTER(kind) for kind in kinds]
     call.restype = _SIZE
 
-    def ask(*values):
+    def ask(*arguments):
         numbers = [kind() for kind in kinds]
-        answer = call(*values, *map(ctypes.byref, numbers))
+        answer = call(*arguments, *map(ctypes.byref, numbers))
         values = [number.value for number in numbers]
         place = values.pop(0) if placed else 0
         if answer:

@@ -9,7 +9,7 @@ use std::process::ExitCode;
 use std::time::Instant;
 
 /// PROPs in the LIST, unless the command line says otherwise.
-const PROPS: usize = 10_000;
+const PROPS: usize = 5_000;
 
 struct Case {
     name: &'static str,

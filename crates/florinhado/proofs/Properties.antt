@@ -1,25 +1,23 @@
 -- What is told of a picture's properties, once the case of the answer is known.
-use Prim.Native.Nat.{ℕ, _-_, _≤_}
-use mathlib.Core.Path.{_≡_, refl, sym, ap, _∙_}
+use Prim.Native.Nat.{ℕ}
+use mathlib.Core.Path.{_≡_, refl}
 use mathlib.Core.List.{List}
-use lib.IntN.{ℤ, pos}
-use lib.ListN.{length, take, drop}
-use native.Mathlib.Omega.{arith}
+use lib.IntN.{pos}
 use mir.Syntax.{w16}
 use mir.Val.{toZ, ofZ, SFits}
 use mir.Facts.{toZ-ofZ}
 use Rattle.ilbm.specs.declared.Picture.{Picture}
 use Rattle.ilbm.specs.declared.PictureAnswer.{PictureAnswer}
 use Rattle.ilbm.specs.declared.PictureAnswer.the-variants.{Shown, Refused}
-use Rattle.ilbm.specs.Contents.{Property, own, shared, absent, Content}
-use Rattle.ilbm.specs.Pictures.{Viewed, viewed, unseen, originOf, viewOf}
+use Rattle.ilbm.specs.Contents.{Property, own, shared, absent}
+use Rattle.ilbm.specs.Pictures.{Viewed, originOf}
 use mathlib.Core.Option.{some}
 use Rattle.members.specs.Members.{Shows}
 use Rattle.members.specs.declared.Part.{Part}
 use Rattle.members.specs.declared.Part.the-variants.{Nothing, Between}
 use Rattle.content.specs.declared.Held.{Held}
 use Rattle.content.specs.declared.Contents.{Contents}
-use Rattle.content.specs.Held.{HeldIs, ContentsAre}
+use Rattle.content.specs.Held.{HeldIs}
 use Rattle.view.specs.declared.View.{View}
 use Rattle.view.specs.declared.View.the-variants.{Seen, Unseen}
 use Rattle.view.specs.Seen.{ViewIs}
