@@ -1,11 +1,13 @@
 -- The walk over the bytes tells what `chunkAt` and `run` find. The levels that are left fall at each call of `group`; the loop
--- in `group` keeps that the members still to come, after the chunks so far, bring the walk to its result.
+-- in `group` keeps that the members still to come, after the chunks so far, bring the walk to its result, and that p is the place of
+-- one of the members, so that what `fresh` says of each of them holds there.
 use Prim.Native.Nat.{ℕ, _+_, _-_, _*_, _≤_, _<_}
 use mathlib.Core.Path.{refl}
 use native.Mathlib.Omega.{arith}
 use borrow.Author.Needs.{needs}
 use Rattle.tree.specs.Judge.{chunkAt, membersOf, toldAll}
 use Rattle.tree.proofs.WalkLaws.{Runs, walk-laws}
+use Rattle.tree.proofs.RepeatLaws.{OnWay, way-laws}
 use borrow.Fn.Kinds.{In}
 use borrow.Fn.PlainCycle.{Measures, is, falls, and}
 use Rattle.tree.proofs.enter.Reads as enter
@@ -18,6 +20,7 @@ use Rattle.tree.proofs.member.Reads as member
 use Rattle.tree.proofs.member.Kinds as member-kinds
 use Rattle.tree.proofs.+enter+group+member.Lts-member as member-lts
 use Rattle.tree.proofs.after.Reads as after-reads
+use Rattle.tree.proofs.fresh_in_group.Reads as fresh-in-group-reads
 use Rattle.tree.proofs.inside.Reads as inside-reads
 use Rattle.tree.proofs.judge_header.Reads as judge-header-reads
 use Rattle.tree.proofs.+enter+group+member.{statement}
@@ -52,6 +55,9 @@ member-below t = and 1 member-kinds.ps (falls 1 member-kinds.ps _<_ μ-member t)
 
 abbrev enter-calls : ℕ → enter-lts.Claims
 enter-calls t = (inside-reads.Asked, inside-reads.Learnt, group-below t, group.Post, after-reads.Asked, after-reads.Learnt)
+
+abbrev group-calls : ℕ → group-lts.Claims
+group-calls t = (fresh-in-group-reads.Asked, fresh-in-group-reads.Learnt, member-below t, member.Post)
 
 abbrev member-calls : ℕ → member-lts.Claims
 member-calls t = (judge-header-reads.Asked, judge-header-reads.Learnt, enter-below t, enter.Post)
@@ -105,35 +111,45 @@ enter-returns-2 : (t : ℕ) → enter-lts.Need-returns-2 (enter-calls t) (enter-
 enter-returns-2 t c = search (walk-laws, needs)
 
 abbrev group-Inv-loop : group-lts.InvT-loop
-group-Inv-loop s from e levels n p₀ count₀ at₀ p count at = (p ≤ e) × (count ≤ p) × Runs (chunkAt levels s from) s at p e count (toldAll n (membersOf levels s from at₀ from e))
+group-Inv-loop s from e levels n fresh p₀ count₀ at₀ p count at = (p ≤ e) × (count ≤ p) × OnWay s from p × Runs (chunkAt levels s from) s at p e count (toldAll n (membersOf levels s from at₀ from e))
 
 abbrev group-μ-loop : group-lts.MeasureT-loop
-group-μ-loop s from e levels n p₀ count₀ at₀ p count at = e - p
+group-μ-loop s from e levels n fresh p₀ count₀ at₀ p count at = e - p
+
+group-fresh-in-group-requires :
+    (t : ℕ) →
+    group-lts.Need-fresh-in-group-requires
+    (group-calls t)
+    (group-at t)
+    group.Post
+    group-Inv-loop
+    group-μ-loop
+group-fresh-in-group-requires t c κs = search needs
 
 group-loop-holds :
     (t : ℕ) →
     group-lts.Need-loop-holds
-    (member-below t, member.Post)
+    (group-calls t)
     (group-at t)
     group.Post
     group-Inv-loop
     group-μ-loop
-group-loop-holds t c = let a = c .before .args in (search needs, search needs, (a .e - a .from, (search needs, refl)))
+group-loop-holds t c = let a = c .before .before .args in (search needs, search needs, search (way-laws, needs), (a .e - a .from, (search needs, refl)))
 
 group-member-requires :
     (t : ℕ) →
     group-lts.Need-member-requires
-    (member-below t, member.Post)
+    (group-calls t)
     (group-at t)
     group.Post
     group-Inv-loop
     group-μ-loop
-group-member-requires t c κs = search (walk-laws, needs)
+group-member-requires t c κs = search (walk-laws, way-laws, needs)
 
 group-enum-known-v :
     (t : ℕ) →
     group-lts.Need-enum-known-v
-    (member-below t, member.Post)
+    (group-calls t)
     (group-at t)
     group.Post
     group-Inv-loop
@@ -143,7 +159,7 @@ group-enum-known-v t c = search (walk-laws, needs)
 group-loop-less :
     (t : ℕ) →
     group-lts.Need-loop-less
-    (member-below t, member.Post)
+    (group-calls t)
     (group-at t)
     group.Post
     group-Inv-loop
@@ -153,17 +169,17 @@ group-loop-less t c = search (walk-laws, needs)
 group-loop-again :
     (t : ℕ) →
     group-lts.Need-loop-again
-    (member-below t, member.Post)
+    (group-calls t)
     (group-at t)
     group.Post
     group-Inv-loop
     group-μ-loop
-group-loop-again t c = search (walk-laws, needs)
+group-loop-again t c = search (walk-laws, way-laws, needs)
 
 group-enum-known-v-2 :
     (t : ℕ) →
     group-lts.Need-enum-known-v-2
-    (member-below t, member.Post)
+    (group-calls t)
     (group-at t)
     group.Post
     group-Inv-loop
@@ -173,7 +189,7 @@ group-enum-known-v-2 t c = search (walk-laws, needs)
 group-returns :
     (t : ℕ) →
     group-lts.Need-returns
-    (member-below t, member.Post)
+    (group-calls t)
     (group-at t)
     group.Post
     group-Inv-loop
@@ -183,7 +199,7 @@ group-returns t c = search (walk-laws, needs)
 group-returns-2 :
     (t : ℕ) →
     group-lts.Need-returns-2
-    (member-below t, member.Post)
+    (group-calls t)
     (group-at t)
     group.Post
     group-Inv-loop
@@ -199,20 +215,20 @@ member-enum-known-h t c = search (walk-laws, needs)
 member-enum-known-h-2 : (t : ℕ) → member-lts.Need-enum-known-h-2 (member-calls t) (member-at t) member.Post
 member-enum-known-h-2 t c = search (walk-laws, needs)
 
-member-add-t14 : (t : ℕ) → member-lts.Need-add-t14 (member-calls t) (member-at t) member.Post
-member-add-t14 t c = search (walk-laws, needs)
-
 member-add-t15 : (t : ℕ) → member-lts.Need-add-t15 (member-calls t) (member-at t) member.Post
 member-add-t15 t c = search (walk-laws, needs)
 
 member-add-t16 : (t : ℕ) → member-lts.Need-add-t16 (member-calls t) (member-at t) member.Post
 member-add-t16 t c = search (walk-laws, needs)
 
-member-mul-t18 : (t : ℕ) → member-lts.Need-mul-t18 (member-calls t) (member-at t) member.Post
-member-mul-t18 t c = search (walk-laws, needs)
+member-add-t17 : (t : ℕ) → member-lts.Need-add-t17 (member-calls t) (member-at t) member.Post
+member-add-t17 t c = search (walk-laws, needs)
 
-member-add-t19 : (t : ℕ) → member-lts.Need-add-t19 (member-calls t) (member-at t) member.Post
-member-add-t19 t c = search (walk-laws, needs)
+member-mul-t19 : (t : ℕ) → member-lts.Need-mul-t19 (member-calls t) (member-at t) member.Post
+member-mul-t19 t c = search (walk-laws, needs)
+
+member-add-t20 : (t : ℕ) → member-lts.Need-add-t20 (member-calls t) (member-at t) member.Post
+member-add-t20 t c = search (walk-laws, needs)
 
 member-enum-known-h-3 : (t : ℕ) → member-lts.Need-enum-known-h-3 (member-calls t) (member-at t) member.Post
 member-enum-known-h-3 t c = search (walk-laws, needs)
@@ -250,11 +266,12 @@ pub +enter+group+member-spec : {M : Type 1} → statement M
     (enter-returns t)
     (enter-returns-2 t))
     (λ t. group-lts.spec
-    (member-below t, member.Post)
+    (group-calls t)
     (group-at t)
     group.Post
     group-Inv-loop
     group-μ-loop
+    (group-fresh-in-group-requires t)
     (group-loop-holds t)
     (group-member-requires t)
     (group-enum-known-v t)
@@ -270,11 +287,11 @@ pub +enter+group+member-spec : {M : Type 1} → statement M
     (member-judge-header-requires t)
     (member-enum-known-h t)
     (member-enum-known-h-2 t)
-    (member-add-t14 t)
     (member-add-t15 t)
     (member-add-t16 t)
-    (member-mul-t18 t)
-    (member-add-t19 t)
+    (member-add-t17 t)
+    (member-mul-t19 t)
+    (member-add-t20 t)
     (member-enum-known-h-3 t)
     (member-enter-requires t)
     (member-returns t)

@@ -1,4 +1,5 @@
 use Rattle.tree.proofs.WalkLaws.{file-laws}
+use Rattle.tree.proofs.RepeatLaws.{way-laws}
 use borrow.Author.Needs.{needs}
 use Rattle.tree.proofs.outermost.Statement.{statement}
 use Rattle.tree.proofs.outermost.Tie as tie
@@ -8,7 +9,7 @@ use Rattle.tree.proofs.member.Reads as member-reads
 
 -- src/lib.rt:397:9
 member-requires : tie.Need-member-requires
-member-requires c κs = search needs
+member-requires c κs = search (way-laws, needs)
 
 -- src/lib.rt:399:23
 enum-known-v : tie.Need-enum-known-v

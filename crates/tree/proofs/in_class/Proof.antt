@@ -1,0 +1,38 @@
+-- The name at p says whether a PROP stands there, the first byte of its type its class.
+use Rattle.tree.proofs.RepeatLaws.{repeat-laws}
+use borrow.Author.Needs.{needs}
+use Rattle.tree.proofs.in_class.Statement.{statement}
+use Rattle.tree.proofs.in_class.Tie as tie
+use Rattle.tree.proofs.in_class.Reads as reads
+use Rattle.tree.proofs.in_class.Lts as lts
+use Rattle.tree.proofs.digit.Reads as digit-reads
+use Rattle.tree.proofs.name_at.Reads as name-at-reads
+
+-- src/lib.rt:360:8
+name-at-requires : tie.Need-name-at-requires
+name-at-requires c κs = search needs
+
+-- src/lib.rt:361:26
+add-name-at : tie.Need-add-name-at
+add-name-at c = search needs
+
+-- src/lib.rt:361:15
+name-at-requires-2 : tie.Need-name-at-requires-2
+name-at-requires-2 c κs = search needs
+
+-- src/lib.rt:361:9
+digit-requires : tie.Need-digit-requires
+digit-requires c κs = search needs
+
+-- src/lib.rt:356:1
+returns : tie.Need-returns
+returns c = search (repeat-laws, needs)
+
+-- src/lib.rt:356:1
+returns-2 : tie.Need-returns-2
+returns-2 c = search (repeat-laws, needs)
+
+pub in-class-spec : {M : Type 1} → statement M
+in-class-spec =
+    tie.close
+    (tie.spec name-at-requires add-name-at name-at-requires-2 digit-requires returns returns-2)
