@@ -16,10 +16,8 @@ pub extern "C" fn ilbm_line(
     place: &mut usize,
     next: &mut usize,
 ) -> usize
-    ensures told {
-        λ r. ⌜ record { number = r; place = now (place .exit); value = now (next .exit) }
-        ≡ lineTold (lineAnswer (lineOf (now (file .entry)) number start (length (now (row .entry))))) ⌝
-    }
+    ensures told { λ r. ⌜ record { number = r; place = now (place .exit); value = now (next .exit) }
+        ≡ lineTold (lineAnswer (lineOf (now (file .entry)) number start (length (now (row .entry))))) ⌝ }
     ensures bytes { λ _. ⌜ now (row .exit) ≡ written (lineOf (now (file .entry)) number start (length (now (row .entry)))) (now (row .entry)) ⌝ }
 {
     let v = rows::scan_line(file, number, start, row);
@@ -49,10 +47,8 @@ pub extern "C" fn ilbm_frame(
     place: &mut usize,
     leftover: &mut usize,
 ) -> usize
-    ensures told {
-        λ r. ⌜ record { number = r; place = now (place .exit); value = now (leftover .exit) }
-        ≡ frameTold (frameAnswer (frameOf (now (file .entry)) number (length (now (frame .entry))))) ⌝
-    }
+    ensures told { λ r. ⌜ record { number = r; place = now (place .exit); value = now (leftover .exit) }
+        ≡ frameTold (frameAnswer (frameOf (now (file .entry)) number (length (now (frame .entry))))) ⌝ }
     ensures bytes { λ _. ⌜ now (frame .exit) ≡ written (frameOf (now (file .entry)) number (length (now (frame .entry)))) (now (frame .entry)) ⌝ }
 {
     let v = rows::whole_frame(file, number, frame);
