@@ -277,7 +277,7 @@ def palette(file, picture, default=b""):
 def scan_line(file, picture, start=0):
     """The colour numbers of a scan line, and the next line's place in the BODY."""
     file = bytes(file)
-    width = header(file, picture).value.w
+    width = header(file, picture).value.width
     row = ctypes.create_string_buffer(width or 1)
     (following,) = _ilbm_line(file, len(file), picture, start, row, width)
     return row.raw[:width], following
@@ -287,7 +287,7 @@ def frame(file, picture):
     """The colour numbers of all scan lines; Refused with 20 to 28."""
     file = bytes(file)
     told = header(file, picture).value
-    size = told.w * told.h
+    size = told.width * told.height
     room = ctypes.create_string_buffer(size or 1)
     _ilbm_frame(file, len(file), picture, room, size)
     return room.raw[:size]
