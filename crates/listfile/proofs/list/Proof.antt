@@ -1,0 +1,54 @@
+-- `list` is safe: in an accepted file the first cursor is located, and the check has counted the records.
+use native.Mathlib.Omega.{arith}
+use borrow.Author.Needs.{needs}
+use Rattle.grammar.specs.Words.{Bytes}
+use Rattle.listfile.proofs.PictureLaws.{accepted-start, accepted-count}
+use Rattle.listfile.proofs.list.Statement.{statement}
+use Rattle.listfile.proofs.list.Tie as tie
+
+check-requires : tie.Need-check-requires
+check-requires c κs = search needs
+
+enum-known-v : tie.Need-enum-known-v
+enum-known-v c = search needs
+
+pictures-requires : tie.Need-pictures-requires
+pictures-requires c κs =
+    let k = c .before .before .before .before in
+    let b : Bytes (k .before .args .s .now) = λ i. omega (arith, k .shared-slice-known .given i) in
+    search (accepted-start, accepted-count, needs)
+
+write-head-requires : tie.Need-write-head-requires
+write-head-requires c κs = search needs
+
+write-records-requires : tie.Need-write-records-requires
+write-records-requires c κs =
+    let k = c .before .before .before .before .before .before in
+    let b : Bytes (k .before .args .s .now) = λ i. omega (arith, k .shared-slice-known .given i) in
+    search (accepted-start, accepted-count, needs)
+
+enum-known-v-2 : tie.Need-enum-known-v-2
+enum-known-v-2 c = search needs
+
+write-refusal-requires : tie.Need-write-refusal-requires
+write-refusal-requires c κs = search needs
+
+returns : tie.Need-returns
+returns c = search needs
+
+returns-2 : tie.Need-returns-2
+returns-2 c = search needs
+
+pub list-spec : {M : Type 1} → statement M
+list-spec =
+    tie.close
+    (tie.spec
+    check-requires
+    enum-known-v
+    pictures-requires
+    write-head-requires
+    write-records-requires
+    enum-known-v-2
+    write-refusal-requires
+    returns
+    returns-2)

@@ -1,0 +1,52 @@
+-- `write_records` is safe and ends: the cursor is located at each turn, and one record further than before.
+use Prim.Native.Nat.{_-_, _≤_}
+use borrow.Author.Needs.{needs}
+use Rattle.listing.specs.Cursors.{Located}
+use Rattle.listfile.proofs.PictureLaws.{picture-laws}
+use Rattle.listfile.proofs.write_records.Statement.{statement}
+use Rattle.listfile.proofs.write_records.Tie as tie
+
+abbrev Inv-loop : tie.InvT-loop
+Inv-loop s chunks cur₀ cur = (Located s cur) × (cur .number ≤ chunks)
+
+abbrev μ-loop : tie.MeasureT-loop
+μ-loop s chunks cur₀ cur = chunks - cur .number
+
+first-requires : tie.Need-first-requires Inv-loop μ-loop
+first-requires c κs = search (picture-laws, needs)
+
+loop-holds : tie.Need-loop-holds Inv-loop μ-loop
+loop-holds c = search (picture-laws, needs)
+
+record-at-requires : tie.Need-record-at-requires Inv-loop μ-loop
+record-at-requires c κs = search (picture-laws, needs)
+
+write-record-requires : tie.Need-write-record-requires Inv-loop μ-loop
+write-record-requires c κs = search (picture-laws, needs)
+
+advance-requires : tie.Need-advance-requires Inv-loop μ-loop
+advance-requires c κs = search (picture-laws, needs)
+
+loop-less : tie.Need-loop-less Inv-loop μ-loop
+loop-less c = search (picture-laws, needs)
+
+loop-again : tie.Need-loop-again Inv-loop μ-loop
+loop-again c = search (picture-laws, needs)
+
+returns : tie.Need-returns Inv-loop μ-loop
+returns c = search (picture-laws, needs)
+
+pub write-records-spec : {M : Type 1} → statement M
+write-records-spec =
+    tie.close
+    (tie.spec
+    Inv-loop
+    μ-loop
+    first-requires
+    loop-holds
+    record-at-requires
+    write-record-requires
+    advance-requires
+    loop-less
+    loop-again
+    returns)
