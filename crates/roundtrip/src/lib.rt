@@ -1,0 +1,1 @@
+// Theorems alone: what the writer writes reads back as the same picture.
