@@ -3,7 +3,7 @@ use Prim.Native.Nat.{ℕ, _≤_}
 use mathlib.Core.Path.{_≡_}
 use mathlib.Core.List.{List}
 use mathlib.Core.Logic.{_↔_}
-use lib.ListN.{length}
+use lib.ListN.{length, take}
 use Rattle.tree.specs.Chunks.{Chunk, before, none, bytes, count}
 use Rattle.tree.specs.Judge.{found, readFile, checkOf}
 use Rattle.tree.specs.declared.Verdict.the-variants.{Accepted, Refused}
@@ -13,6 +13,11 @@ use Rattle.grammar.specs.Accept as Accept
 use Rattle.byterun.specs.Packing.{Packs}
 use Rattle.pack.specs.Pack.{packed}
 use Rattle.pack.specs.Laws as Packing
+use Rattle.ilbm.specs.declared.BitmapHeader.{BitmapHeader}
+use Rattle.writer.specs.declared.WriteAnswer.the-variants.{Written}
+use Rattle.writer.specs.Write.{pictureFile, writeOf, outAfter}
+use Rattle.roundtrip.specs.Header.{InRange}
+use Rattle.roundtrip.specs.RoundTrip as RoundTrip
 use Rattle.additions.specs.Statement as Statement
 use Rattle.additions.specs.Demand3 as Additions
 use Rattle.demands.specs.Numbers.{Structural}
@@ -41,6 +46,12 @@ packed-unpacks = Packing.packed-unpacks
 
 pub packed-short : (row : List ℕ) → length (packed row) ≤ Packing.mostFor (length row)
 packed-short = Packing.packed-short
+
+-- What is written reads back, with an empty default palette: the same fields but pad1, the same palette and frame.
+pub written-reads-back :
+    (b : BitmapHeader) (palette frame out : List ℕ) (n : ℕ) → InRange b → writeOf b palette frame (length out) ≡ Written n →
+    RoundTrip.ReadsBack (take n (outAfter (writeOf b palette frame (length out)) (pictureFile b palette frame) out)) b palette frame
+written-reads-back = RoundTrip.round-trip
 
 -- Demand 3. Whatever a later writer adds, list of additions and all: the file is still accepted, every call on every picture
 -- answers as before but for the moved place of a shared PROP, and version names over added headers give 3 at the first of them.

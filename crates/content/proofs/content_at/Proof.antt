@@ -1,3 +1,4 @@
+-- Each way through the code takes the same branch of the definition; the places it reads lie inside by laws of Laws.
 use Rattle.content.proofs.Laws.{plain-bmhd, plain-cmap, plain-grab, plain-dest, plain-sprt, plain-camg, all-content}
 use borrow.Author.Needs.{needs}
 use Rattle.content.proofs.content_at.Statement.{statement}
@@ -9,43 +10,33 @@ use Rattle.members.proofs.count_bodies.Reads as count-bodies-reads
 use Rattle.members.proofs.first_body.Reads as first-body-reads
 use Rattle.members.proofs.until_body.Reads as until-body-reads
 
--- src/lib.rt:90:9
 count-bodies-requires : tie.Need-count-bodies-requires
 count-bodies-requires c κs = search needs
 
--- src/lib.rt:91:9
 first-body-requires : tie.Need-first-body-requires
 first-body-requires c κs = search needs
 
--- src/lib.rt:92:9
 until-body-requires : tie.Need-until-body-requires
 until-body-requires c κs = search needs
 
--- src/lib.rt:94:15
 property-requires : tie.Need-property-requires
 property-requires c κs = (c .before .before .before .before .pre .0, c .until-body .ensures, c .before .before .before .before .pre .1, plain-bmhd)
 
--- src/lib.rt:95:15
 property-requires-2 : tie.Need-property-requires-2
 property-requires-2 c κs = (c .before .before .before .before .before .pre .0, c .before .until-body .ensures, c .before .before .before .before .before .pre .1, plain-cmap)
 
--- src/lib.rt:96:15
 property-requires-3 : tie.Need-property-requires-3
 property-requires-3 c κs = (c .before .before .before .before .before .before .pre .0, c .before .before .until-body .ensures, c .before .before .before .before .before .before .pre .1, plain-grab)
 
--- src/lib.rt:97:15
 property-requires-4 : tie.Need-property-requires-4
 property-requires-4 c κs = (c .before .before .before .before .before .before .before .pre .0, c .before .before .before .until-body .ensures, c .before .before .before .before .before .before .before .pre .1, plain-dest)
 
--- src/lib.rt:98:15
 property-requires-5 : tie.Need-property-requires-5
 property-requires-5 c κs = (c .before .before .before .before .before .before .before .before .pre .0, c .before .before .before .before .until-body .ensures, c .before .before .before .before .before .before .before .before .pre .1, plain-sprt)
 
--- src/lib.rt:99:15
 property-requires-6 : tie.Need-property-requires-6
 property-requires-6 c κs = (c .before .before .before .before .before .before .before .before .before .pre .0, c .before .before .before .before .before .until-body .ensures, c .before .before .before .before .before .before .before .before .before .pre .1, plain-camg)
 
--- src/lib.rt:86:1
 returns : tie.Need-returns
 returns c =
     all-content _ _ _ _ _

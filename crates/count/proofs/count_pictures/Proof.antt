@@ -1,3 +1,4 @@
+-- Each way through the code takes the same branch of the definition; the places it reads lie inside by laws of Laws.
 use mathlib.Core.Path.{sym, _∙_}
 use native.Mathlib.Omega.{arith}
 use Rattle.flat.specs.Coming.{accepted-sound}
@@ -10,29 +11,23 @@ use Rattle.count.proofs.count_pictures.Lts as lts
 use Rattle.count.proofs.count_sound.Reads as count-sound-reads
 use Rattle.tree.proofs.check.Reads as check-reads
 
--- src/lib.rt:65:9
 check-requires : tie.Need-check-requires
 check-requires c κs = search needs
 
--- src/lib.rt:69:13
 enum-known-v : tie.Need-enum-known-v
 enum-known-v c = search needs
 
--- src/lib.rt:71:32
 count-sound-requires : tie.Need-count-sound-requires
 count-sound-requires c κs =
     accepted-sound _ (λ i. omega (arith, c .before .before .before .before .shared-slice-known .given i)) _ _ _
     (sym (c .before .before .before .check .ensures) ∙ c .before .v .given .1)
 
--- src/lib.rt:72:28
 enum-known-v-2 : tie.Need-enum-known-v-2
 enum-known-v-2 c = search needs
 
--- src/lib.rt:62:1
 returns : tie.Need-returns
 returns c = search needs
 
--- src/lib.rt:62:1
 returns-2 : tie.Need-returns-2
 returns-2 c = search (count-refused, needs)
 

@@ -1,3 +1,4 @@
+-- The loop keeps what is still to come equal to the whole answer; one turn and the end are laws of Laws.
 use Prim.Native.Nat.{ℕ, _-_, _≤_}
 use borrow.Author.Needs.{needs}
 use Rattle.count.proofs.Laws.{Tally, tally-laws}
@@ -14,31 +15,24 @@ Inv-loop s end p₀ n₀ p n = (n ≤ p) × Tally s end p n
 abbrev μ-loop : tie.MeasureT-loop
 μ-loop s end p₀ n₀ p n = end - p
 
--- src/lib.rt:54:5
 loop-holds : tie.Need-loop-holds Inv-loop μ-loop
 loop-holds c = search (tally-laws, needs)
 
--- src/lib.rt:55:17
 form-at-requires : tie.Need-form-at-requires Inv-loop μ-loop
 form-at-requires c κs = search (tally-laws, needs)
 
--- src/lib.rt:55:13
 add-n : tie.Need-add-n Inv-loop μ-loop
 add-n c = search (tally-laws, needs)
 
--- src/lib.rt:56:9
 next-chunk-requires : tie.Need-next-chunk-requires Inv-loop μ-loop
 next-chunk-requires c κs = search (tally-laws, needs)
 
--- src/lib.rt:54:5
 loop-less : tie.Need-loop-less Inv-loop μ-loop
 loop-less c = search (tally-laws, needs)
 
--- src/lib.rt:54:5
 loop-again : tie.Need-loop-again Inv-loop μ-loop
 loop-again c = search (tally-laws, needs)
 
--- src/lib.rt:48:1
 returns : tie.Need-returns Inv-loop μ-loop
 returns c = search (tally-laws, needs)
 

@@ -1,3 +1,4 @@
+-- Each way through the code takes the same branch of the definition; the places it reads lie inside by laws of Laws.
 use borrow.Author.Needs.{needs}
 use Rattle.count.proofs.Laws.{header-room, type-room, form-hit, form-other, form-none}
 use Rattle.count.proofs.form_at.Statement.{statement}
@@ -6,27 +7,21 @@ use Rattle.count.proofs.form_at.Reads as reads
 use Rattle.count.proofs.form_at.Lts as lts
 use Rattle.tree.proofs.name_at.Reads as name-at-reads
 
--- src/lib.rt:28:8
 name-at-requires : tie.Need-name-at-requires
 name-at-requires c κs = search (header-room, needs)
 
--- src/lib.rt:29:23
 add-name-at : tie.Need-add-name-at
 add-name-at c = search needs
 
--- src/lib.rt:29:12
 name-at-requires-2 : tie.Need-name-at-requires-2
 name-at-requires-2 c κs = search (type-room, needs)
 
--- src/lib.rt:30:13
 returns : tie.Need-returns
 returns c = search (form-hit, needs)
 
--- src/lib.rt:24:1
 returns-2 : tie.Need-returns-2
 returns-2 c = search (form-other, needs)
 
--- src/lib.rt:24:1
 returns-3 : tie.Need-returns-3
 returns-3 c = search (form-none, needs)
 

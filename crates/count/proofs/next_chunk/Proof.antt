@@ -1,3 +1,4 @@
+-- Each way through the code takes the same branch of the definition; the places it reads lie inside by laws of Laws.
 use borrow.Author.Needs.{needs}
 use Rattle.count.proofs.Laws.{header-room, size-room, following-group, following-leaf}
 use Rattle.count.proofs.next_chunk.Statement.{statement}
@@ -9,51 +10,39 @@ use Rattle.tree.proofs.is_group.Reads as is-group-reads
 use Rattle.tree.proofs.name_at.Reads as name-at-reads
 use Rattle.tree.proofs.size_at.Reads as size-at-reads
 
--- src/lib.rt:41:17
 name-at-requires : tie.Need-name-at-requires
 name-at-requires c κs = search (header-room, needs)
 
--- src/lib.rt:41:17
 kind-requires : tie.Need-kind-requires
 kind-requires c κs = search needs
 
--- src/lib.rt:41:8
 is-group-requires : tie.Need-is-group-requires
 is-group-requires c κs = search needs
 
--- src/lib.rt:42:16
 add-result : tie.Need-add-result
 add-result c = search needs
 
--- src/lib.rt:42:9
 returns : tie.Need-returns
 returns c = search (following-group, needs)
 
--- src/lib.rt:44:24
 add-size-at : tie.Need-add-size-at
 add-size-at c = search needs
 
--- src/lib.rt:44:9
 size-at-requires : tie.Need-size-at-requires
 size-at-requires c κs = search (size-room, needs)
 
--- src/lib.rt:45:5
 add-result-2 : tie.Need-add-result-2
 add-result-2 c = search needs
 
--- src/lib.rt:45:14
 add-result-3 : tie.Need-add-result-3
 add-result-3 c = search needs
 
--- src/lib.rt:45:13
 mul-result : tie.Need-mul-result
 mul-result c = search needs
 
--- src/lib.rt:45:5
 add-result-4 : tie.Need-add-result-4
 add-result-4 c = search needs
 
--- src/lib.rt:37:1
 returns-2 : tie.Need-returns-2
 returns-2 c = search (following-leaf, needs)
 

@@ -1,3 +1,4 @@
+-- Each way through the code takes the same branch of the definition; the places it reads lie inside by laws of Laws.
 use Rattle.fields.proofs.Laws.{same-bits, bitmap-header}
 use borrow.Author.Needs.{needs}
 use Rattle.fields.proofs.bitmap_header.Statement.{statement}
@@ -7,59 +8,45 @@ use Rattle.fields.proofs.bitmap_header.Lts as lts
 use Rattle.fields.proofs.signed_at.Reads as signed-at-reads
 use Rattle.fields.proofs.word_at.Reads as word-at-reads
 
--- src/lib.rt:61:12
 word-at-requires : tie.Need-word-at-requires
 word-at-requires c κs = search needs
 
--- src/lib.rt:62:12
 word-at-requires-2 : tie.Need-word-at-requires-2
 word-at-requires-2 c κs = search needs
 
--- src/lib.rt:63:12
 signed-at-requires : tie.Need-signed-at-requires
 signed-at-requires c κs = search needs
 
--- src/lib.rt:64:12
 signed-at-requires-2 : tie.Need-signed-at-requires-2
 signed-at-requires-2 c κs = search needs
 
--- src/lib.rt:65:17
 shared-slice-read-t7 : tie.Need-shared-slice-read-t7
 shared-slice-read-t7 c = search needs
 
--- src/lib.rt:66:18
 shared-slice-read-t9 : tie.Need-shared-slice-read-t9
 shared-slice-read-t9 c = search needs
 
--- src/lib.rt:67:22
 shared-slice-read-t11 : tie.Need-shared-slice-read-t11
 shared-slice-read-t11 c = search needs
 
--- src/lib.rt:68:15
 shared-slice-read-t13 : tie.Need-shared-slice-read-t13
 shared-slice-read-t13 c = search needs
 
--- src/lib.rt:69:22
 word-at-requires-3 : tie.Need-word-at-requires-3
 word-at-requires-3 c κs = search needs
 
--- src/lib.rt:70:19
 shared-slice-read-t16 : tie.Need-shared-slice-read-t16
 shared-slice-read-t16 c = search needs
 
--- src/lib.rt:71:19
 shared-slice-read-t18 : tie.Need-shared-slice-read-t18
 shared-slice-read-t18 c = search needs
 
--- src/lib.rt:72:21
 signed-at-requires-3 : tie.Need-signed-at-requires-3
 signed-at-requires-3 c κs = search needs
 
--- src/lib.rt:73:22
 signed-at-requires-4 : tie.Need-signed-at-requires-4
 signed-at-requires-4 c κs = search needs
 
--- src/lib.rt:56:1
 returns : tie.Need-returns
 returns c =
     bitmap-header _ _ _ _ _ _ _ _

@@ -1,3 +1,4 @@
+-- Each way through the code takes the same branch of the definition; the places it reads lie inside by laws of Laws.
 use Rattle.fields.proofs.Laws.{destination}
 use borrow.Author.Needs.{needs}
 use Rattle.fields.proofs.dest_fields.Statement.{statement}
@@ -6,27 +7,21 @@ use Rattle.fields.proofs.dest_fields.Reads as reads
 use Rattle.fields.proofs.dest_fields.Lts as lts
 use Rattle.fields.proofs.word_at.Reads as word-at-reads
 
--- src/lib.rt:94:16
 shared-slice-read-t3 : tie.Need-shared-slice-read-t3
 shared-slice-read-t3 c = search needs
 
--- src/lib.rt:95:15
 shared-slice-read-t5 : tie.Need-shared-slice-read-t5
 shared-slice-read-t5 c = search needs
 
--- src/lib.rt:96:21
 word-at-requires : tie.Need-word-at-requires
 word-at-requires c κs = search needs
 
--- src/lib.rt:97:23
 word-at-requires-2 : tie.Need-word-at-requires-2
 word-at-requires-2 c κs = search needs
 
--- src/lib.rt:98:21
 word-at-requires-3 : tie.Need-word-at-requires-3
 word-at-requires-3 c κs = search needs
 
--- src/lib.rt:89:1
 returns : tie.Need-returns
 returns c = destination _ _ _ _ (c .before .before .word-at .ensures) (c .before .word-at2 .ensures) (c .word-at3 .ensures)
 

@@ -1,3 +1,4 @@
+-- Each way through the code takes the same branch of the definition; the places it reads lie inside by laws of Laws.
 use Rattle.fields.proofs.Laws.{same-bits, hot-spot}
 use borrow.Author.Needs.{needs}
 use Rattle.fields.proofs.grab_fields.Statement.{statement}
@@ -6,15 +7,12 @@ use Rattle.fields.proofs.grab_fields.Reads as reads
 use Rattle.fields.proofs.grab_fields.Lts as lts
 use Rattle.fields.proofs.signed_at.Reads as signed-at-reads
 
--- src/lib.rt:83:12
 signed-at-requires : tie.Need-signed-at-requires
 signed-at-requires c κs = search needs
 
--- src/lib.rt:84:12
 signed-at-requires-2 : tie.Need-signed-at-requires-2
 signed-at-requires-2 c κs = search needs
 
--- src/lib.rt:78:1
 returns : tie.Need-returns
 returns c = hot-spot _ _ _ (same-bits _ _ (record { sfits = c .before .signed-at .ok }) (c .before .signed-at .ensures)) (same-bits _ _ (record { sfits = c .signed-at2 .ok }) (c .signed-at2 .ensures))
 

@@ -1,3 +1,4 @@
+-- Each way through the code takes the same branch of the definition; the places it reads lie inside by laws of Laws.
 use native.Mathlib.Omega.{arith}
 use Rattle.fields.proofs.Laws.{signed-low, high-fits, signed-high}
 use borrow.Author.Needs.{needs}
@@ -6,27 +7,21 @@ use Rattle.fields.proofs.signed.Tie as tie
 use Rattle.fields.proofs.signed.Reads as reads
 use Rattle.fields.proofs.signed.Lts as lts
 
--- src/lib.rt:26:16
 cast-result : tie.Need-cast-result
 cast-result c = search needs
 
--- src/lib.rt:26:9
 returns : tie.Need-returns
 returns c = signed-low _ (c .if1 .taken)
 
--- src/lib.rt:28:14
 sub-m : tie.Need-sub-m
 sub-m c = search needs
 
--- src/lib.rt:28:13
 cast-m : tie.Need-cast-m
 cast-m c = search needs
 
--- src/lib.rt:29:5
 sub-result : tie.Need-sub-result
 sub-result c = high-fits _ (c .if1 .left) (omega arith)
 
--- src/lib.rt:22:1
 returns-2 : tie.Need-returns-2
 returns-2 c = signed-high _ (c .if1 .left) (omega arith)
 

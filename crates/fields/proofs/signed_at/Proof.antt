@@ -1,3 +1,4 @@
+-- Each way through the code takes the same branch of the definition; the places it reads lie inside by laws of Laws.
 use Rattle.fields.proofs.Laws.{same-bits}
 use mathlib.Core.Path.{_∙_, ap}
 use Rattle.ilbm.specs.Pictures.{signed}
@@ -9,15 +10,12 @@ use Rattle.fields.proofs.signed_at.Lts as lts
 use Rattle.fields.proofs.signed.Reads as signed-reads
 use Rattle.fields.proofs.word_at.Reads as word-at-reads
 
--- src/lib.rt:52:12
 word-at-requires : tie.Need-word-at-requires
 word-at-requires c κs = search needs
 
--- src/lib.rt:52:5
 signed-requires : tie.Need-signed-requires
 signed-requires c κs = search needs
 
--- src/lib.rt:48:1
 returns : tie.Need-returns
 returns c = same-bits _ _ (record { sfits = c .signed .ok }) (c .signed .ensures ∙ ap signed (c .before .word-at .ensures))
 

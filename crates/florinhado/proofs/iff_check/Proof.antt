@@ -1,3 +1,4 @@
+-- Each way through the code takes the same branch of the definition.
 use Rattle.florinhado.proofs.Told.{check-accepted, check-refused}
 use borrow.Author.Needs.{needs}
 use Rattle.florinhado.proofs.iff_check.Statement.{statement}
@@ -6,23 +7,18 @@ use Rattle.florinhado.proofs.iff_check.Reads as reads
 use Rattle.florinhado.proofs.iff_check.Lts as lts
 use Rattle.tree.proofs.check.Reads as check-reads
 
--- src/lib.rt:32:9
 check-requires : tie.Need-check-requires
 check-requires c κs = search needs
 
--- src/lib.rt:35:21
 enum-known-v : tie.Need-enum-known-v
 enum-known-v c = search needs
 
--- src/lib.rt:45:28
 enum-known-v-2 : tie.Need-enum-known-v-2
 enum-known-v-2 c = search needs
 
--- src/lib.rt:19:1
 returns : tie.Need-returns
 returns c = search (check-accepted, needs)
 
--- src/lib.rt:19:1
 returns-2 : tie.Need-returns-2
 returns-2 c = search (check-refused, needs)
 

@@ -1,3 +1,4 @@
+-- Each way through the code takes the same branch of the definition.
 use Rattle.florinhado.proofs.Told.{copy-written, copy-refused}
 use borrow.Author.Needs.{needs}
 use Rattle.florinhado.proofs.iff_clean_copy.Statement.{statement}
@@ -6,31 +7,24 @@ use Rattle.florinhado.proofs.iff_clean_copy.Reads as reads
 use Rattle.florinhado.proofs.iff_clean_copy.Lts as lts
 use Rattle.copy.proofs.clean_copy.Reads as clean-copy-reads
 
--- src/lib.rt:149:9
 clean-copy-requires : tie.Need-clean-copy-requires
 clean-copy-requires c κs = search needs
 
--- src/lib.rt:151:25
 enum-known-v : tie.Need-enum-known-v
 enum-known-v c = search needs
 
--- src/lib.rt:156:27
 enum-known-v-2 : tie.Need-enum-known-v-2
 enum-known-v-2 c = search needs
 
--- src/lib.rt:141:1
 same-length : tie.Need-same-length
 same-length c = search needs
 
--- src/lib.rt:141:1
 returns : tie.Need-returns
 returns c = search (copy-written, needs)
 
--- src/lib.rt:141:1
 same-length-2 : tie.Need-same-length-2
 same-length-2 c = search needs
 
--- src/lib.rt:141:1
 returns-2 : tie.Need-returns-2
 returns-2 c = search (copy-refused, needs)
 

@@ -1,3 +1,4 @@
+-- Each way through the code takes the same branch of the definition.
 use Rattle.florinhado.proofs.Told.{pictures-counted, count-refused}
 use borrow.Author.Needs.{needs}
 use Rattle.florinhado.proofs.iff_count_pictures.Statement.{statement}
@@ -6,23 +7,18 @@ use Rattle.florinhado.proofs.iff_count_pictures.Reads as reads
 use Rattle.florinhado.proofs.iff_count_pictures.Lts as lts
 use Rattle.count.proofs.count_pictures.Reads as count-pictures-reads
 
--- src/lib.rt:171:9
 count-pictures-requires : tie.Need-count-pictures-requires
 count-pictures-requires c κs = search needs
 
--- src/lib.rt:173:27
 enum-known-v : tie.Need-enum-known-v
 enum-known-v c = search needs
 
--- src/lib.rt:178:28
 enum-known-v-2 : tie.Need-enum-known-v-2
 enum-known-v-2 c = search needs
 
--- src/lib.rt:165:1
 returns : tie.Need-returns
 returns c = search (pictures-counted, needs)
 
--- src/lib.rt:165:1
 returns-2 : tie.Need-returns-2
 returns-2 c = search (count-refused, needs)
 

@@ -1,3 +1,4 @@
+-- Each way through the code takes the same branch of the definition.
 use Rattle.florinhado.proofs.Told.{data-lies, data-refused}
 use borrow.Author.Needs.{needs}
 use Rattle.florinhado.proofs.iff_data.Statement.{statement}
@@ -6,23 +7,18 @@ use Rattle.florinhado.proofs.iff_data.Reads as reads
 use Rattle.florinhado.proofs.iff_data.Lts as lts
 use Rattle.listing.proofs.data_extent.Reads as data-extent-reads
 
--- src/lib.rt:120:9
 data-extent-requires : tie.Need-data-extent-requires
 data-extent-requires c κs = search needs
 
--- src/lib.rt:122:30
 enum-known-v : tie.Need-enum-known-v
 enum-known-v c = search needs
 
--- src/lib.rt:129:21
 enum-known-v-2 : tie.Need-enum-known-v-2
 enum-known-v-2 c = search needs
 
--- src/lib.rt:113:1
 returns : tie.Need-returns
 returns c = search (data-lies, needs)
 
--- src/lib.rt:113:1
 returns-2 : tie.Need-returns-2
 returns-2 c = search (data-refused, needs)
 

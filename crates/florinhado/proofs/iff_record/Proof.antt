@@ -1,3 +1,4 @@
+-- Each way through the code takes the same branch of the definition.
 use Rattle.florinhado.proofs.Told.{record-listed, record-refused}
 use borrow.Author.Needs.{needs}
 use Rattle.florinhado.proofs.iff_record.Statement.{statement}
@@ -7,27 +8,21 @@ use Rattle.florinhado.proofs.iff_record.Lts as lts
 use Rattle.florinhado.proofs.kind_number.Reads as kind-number-reads
 use Rattle.listing.proofs.record_by_number.Reads as record-by-number-reads
 
--- src/lib.rt:85:9
 record-by-number-requires : tie.Need-record-by-number-requires
 record-by-number-requires c κs = search needs
 
--- src/lib.rt:87:23
 enum-known-v : tie.Need-enum-known-v
 enum-known-v c = search needs
 
--- src/lib.rt:91:21
 kind-number-requires : tie.Need-kind-number-requires
 kind-number-requires c κs = search needs
 
--- src/lib.rt:98:21
 enum-known-v-2 : tie.Need-enum-known-v-2
 enum-known-v-2 c = search needs
 
--- src/lib.rt:69:1
 returns : tie.Need-returns
 returns c = search (record-listed, needs)
 
--- src/lib.rt:69:1
 returns-2 : tie.Need-returns-2
 returns-2 c = search (record-refused, needs)
 

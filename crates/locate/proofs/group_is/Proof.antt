@@ -1,3 +1,4 @@
+-- Each way through the code takes the same branch of the definition; the places it reads lie inside by laws of Laws.
 use Rattle.locate.proofs.Laws.{name-room, type-room, group-tested, leaf-tested}
 use borrow.Author.Needs.{needs}
 use Rattle.locate.proofs.group_is.Statement.{statement}
@@ -9,35 +10,27 @@ use Rattle.name.proofs.Name.kind.Reads as kind-reads
 use Rattle.tree.proofs.is_group.Reads as is-group-reads
 use Rattle.tree.proofs.name_at.Reads as name-at-reads
 
--- src/lib.rt:37:9
 name-at-requires : tie.Need-name-at-requires
 name-at-requires c κs = search (name-room, needs)
 
--- src/lib.rt:38:17
 kind-requires : tie.Need-kind-requires
 kind-requires c κs = search needs
 
--- src/lib.rt:38:8
 is-group-requires : tie.Need-is-group-requires
 is-group-requires c κs = search needs
 
--- src/lib.rt:39:35
 add-name-at : tie.Need-add-name-at
 add-name-at c = search needs
 
--- src/lib.rt:39:24
 name-at-requires-2 : tie.Need-name-at-requires-2
 name-at-requires-2 c κs = search (type-room, needs)
 
--- src/lib.rt:39:9
 is-a-requires : tie.Need-is-a-requires
 is-a-requires c κs = search needs
 
--- src/lib.rt:39:9
 returns : tie.Need-returns
 returns c = search (group-tested, needs)
 
--- src/lib.rt:33:1
 returns-2 : tie.Need-returns-2
 returns-2 c = search (leaf-tested, needs)
 

@@ -1,3 +1,4 @@
+-- Each way through the code takes the same branch of the definition; the places it reads lie inside by laws of Laws.
 use Rattle.locate.proofs.Laws.{group-laws}
 use borrow.Author.Needs.{needs}
 use Rattle.locate.proofs.inner_scope.Statement.{statement}
@@ -8,39 +9,30 @@ use Rattle.locate.proofs.shared_prop.Reads as shared-prop-reads
 use Rattle.tree.proofs.name_at.Reads as name-at-reads
 use Rattle.tree.proofs.size_at.Reads as size-at-reads
 
--- src/lib.rt:64:8
 name-at-requires : tie.Need-name-at-requires
 name-at-requires c κs = search (group-laws, needs)
 
--- src/lib.rt:65:19
 add-end : tie.Need-add-end
 add-end c = search needs
 
--- src/lib.rt:65:38
 add-size-at : tie.Need-add-size-at
 add-size-at c = search needs
 
--- src/lib.rt:65:27
 size-at-requires : tie.Need-size-at-requires
 size-at-requires c κs = search (group-laws, needs)
 
--- src/lib.rt:65:19
 add-end-2 : tie.Need-add-end-2
 add-end-2 c = search (group-laws, needs)
 
--- src/lib.rt:66:31
 add-shared-prop : tie.Need-add-shared-prop
 add-shared-prop c = search needs
 
--- src/lib.rt:66:9
 shared-prop-requires : tie.Need-shared-prop-requires
 shared-prop-requires c κs = search (group-laws, needs)
 
--- src/lib.rt:66:9
 returns : tie.Need-returns
 returns c = search (group-laws, needs)
 
--- src/lib.rt:60:1
 returns-2 : tie.Need-returns-2
 returns-2 c = search (group-laws, needs)
 

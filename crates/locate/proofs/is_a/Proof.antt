@@ -1,3 +1,4 @@
+-- Each way through the code takes the same branch of the definition; the places it reads lie inside by laws of Laws.
 use borrow.Author.Needs.{needs}
 use Rattle.locate.proofs.Laws.{is-a-hit, is-a-miss}
 use Rattle.locate.proofs.is_a.Statement.{statement}
@@ -5,11 +6,9 @@ use Rattle.locate.proofs.is_a.Tie as tie
 use Rattle.locate.proofs.is_a.Reads as reads
 use Rattle.locate.proofs.is_a.Lts as lts
 
--- src/lib.rt:26:1
 returns : tie.Need-returns
 returns c = search (is-a-hit, needs)
 
--- src/lib.rt:26:1
 returns-2 : tie.Need-returns-2
 returns-2 c = search (is-a-miss, needs)
 

@@ -1,3 +1,4 @@
+-- The loop keeps what is still to come equal to the whole answer; one turn and the end are laws of Laws.
 use Prim.Native.Nat.{ℕ, _-_, _≤_}
 use native.Mathlib.Omega.{arith}
 use borrow.Author.Needs.{needs}
@@ -16,31 +17,24 @@ Inv-loop s p e prop q₀ q = (p ≤ q) × (q ≤ e) × Row s q e × Sharing s p 
 abbrev μ-loop : tie.MeasureT-loop
 μ-loop s p e prop q₀ q = e - q
 
--- src/lib.rt:50:5
 loop-holds : tie.Need-loop-holds Inv-loop μ-loop
 loop-holds c = search (sharing-laws, needs)
 
--- src/lib.rt:51:12
 group-is-requires : tie.Need-group-is-requires Inv-loop μ-loop
 group-is-requires c κs = search (sharing-laws, needs)
 
--- src/lib.rt:52:13
 returns : tie.Need-returns Inv-loop μ-loop
 returns c = search (sharing-laws, needs)
 
--- src/lib.rt:54:13
 sibling-at-requires : tie.Need-sibling-at-requires Inv-loop μ-loop
 sibling-at-requires c κs = search (sharing-laws, needs)
 
--- src/lib.rt:50:5
 loop-less : tie.Need-loop-less Inv-loop μ-loop
 loop-less c = search (sharing-laws, needs)
 
--- src/lib.rt:50:5
 loop-again : tie.Need-loop-again Inv-loop μ-loop
 loop-again c = search (sharing-laws, needs)
 
--- src/lib.rt:45:1
 returns-2 : tie.Need-returns-2 Inv-loop μ-loop
 returns-2 c = sharing-end _ _ _ _ _ (omega arith) (c .before .loop .inv .3)
 

@@ -1,3 +1,4 @@
+-- The loop keeps what is still to come equal to the whole answer; one turn and the end are laws of Laws.
 use Prim.Native.Nat.{ℕ, _+_, _-_, _≤_}
 use native.Mathlib.Omega.{arith}
 use borrow.Author.Needs.{needs}
@@ -16,31 +17,24 @@ Inv-loop s p e q₀ n₀ q n = (q ≤ e) × (n ≤ q) × Row s q e × Counted s 
 abbrev μ-loop : tie.MeasureT-loop
 μ-loop s p e q₀ n₀ q n = e - q
 
--- src/lib.rt:79:5
 loop-holds : tie.Need-loop-holds Inv-loop μ-loop
 loop-holds c = search (loop-laws, needs)
 
--- src/lib.rt:80:13
 sibling-at-requires : tie.Need-sibling-at-requires Inv-loop μ-loop
 sibling-at-requires c κs = search (loop-laws, needs)
 
--- src/lib.rt:81:17
 one-if-requires : tie.Need-one-if-requires Inv-loop μ-loop
 one-if-requires c κs = search (loop-laws, needs)
 
--- src/lib.rt:81:13
 add-n : tie.Need-add-n Inv-loop μ-loop
 add-n c = search (loop-laws, needs)
 
--- src/lib.rt:79:5
 loop-less : tie.Need-loop-less Inv-loop μ-loop
 loop-less c = search (loop-laws, needs)
 
--- src/lib.rt:79:5
 loop-again : tie.Need-loop-again Inv-loop μ-loop
 loop-again c = search (loop-laws, needs)
 
--- src/lib.rt:73:1
 returns : tie.Need-returns Inv-loop μ-loop
 returns c = counted-end _ _ _ _ (omega arith) _ (c .before .loop .inv .3)
 

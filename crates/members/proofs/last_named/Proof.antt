@@ -1,3 +1,4 @@
+-- The loop keeps what is still to come equal to the whole answer; one turn and the end are laws of Laws.
 use Prim.Native.Nat.{ℕ, _+_, _-_, _≤_}
 use native.Mathlib.Omega.{arith}
 use borrow.Author.Needs.{needs}
@@ -16,27 +17,21 @@ Inv-loop s p e name q₀ part₀ q part = (q ≤ e) × Row s q e × Looked s p e
 abbrev μ-loop : tie.MeasureT-loop
 μ-loop s p e name q₀ part₀ q part = e - q
 
--- src/lib.rt:58:5
 loop-holds : tie.Need-loop-holds Inv-loop μ-loop
 loop-holds c = search (loop-laws, needs)
 
--- src/lib.rt:59:13
 sibling-at-requires : tie.Need-sibling-at-requires Inv-loop μ-loop
 sibling-at-requires c κs = search (loop-laws, needs)
 
--- src/lib.rt:60:9
 newer-requires : tie.Need-newer-requires Inv-loop μ-loop
 newer-requires c κs = search (loop-laws, needs)
 
--- src/lib.rt:58:5
 loop-less : tie.Need-loop-less Inv-loop μ-loop
 loop-less c = search (loop-laws, needs)
 
--- src/lib.rt:58:5
 loop-again : tie.Need-loop-again Inv-loop μ-loop
 loop-again c = search (loop-laws, needs)
 
--- src/lib.rt:52:1
 returns : tie.Need-returns Inv-loop μ-loop
 returns c = looked-end _ _ _ _ (omega arith) _ _ (c .before .loop .inv .2)
 

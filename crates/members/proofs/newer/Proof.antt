@@ -1,14 +1,13 @@
+-- Each way through the code takes the same branch of the definition.
 use borrow.Author.Needs.{needs}
 use Rattle.members.proofs.newer.Statement.{statement}
 use Rattle.members.proofs.newer.Tie as tie
 use Rattle.members.proofs.newer.Reads as reads
 use Rattle.members.proofs.newer.Lts as lts
 
--- src/lib.rt:45:1
 returns : tie.Need-returns
 returns c = cc
 
--- src/lib.rt:45:1
 returns-2 : tie.Need-returns-2
 returns-2 c = search needs
 

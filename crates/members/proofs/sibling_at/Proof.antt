@@ -1,3 +1,4 @@
+-- Each way through the code takes the same branch of the definition; the places it reads lie inside by laws of Laws.
 use native.Mathlib.Omega.{arith}
 use Rattle.members.proofs.Laws.{row-room, front-read, sibling-inside}
 use borrow.Author.Needs.{needs}
@@ -8,47 +9,36 @@ use Rattle.members.proofs.sibling_at.Lts as lts
 use Rattle.tree.proofs.name_at.Reads as name-at-reads
 use Rattle.tree.proofs.size_at.Reads as size-at-reads
 
--- src/lib.rt:36:24
 add-size-at : tie.Need-add-size-at
 add-size-at c = search needs
 
--- src/lib.rt:36:9
 size-at-requires : tie.Need-size-at-requires
 size-at-requires c κs = omega (arith, row-room _ _ _ (c .before .pre .0) (c .before .pre .1))
 
--- src/lib.rt:38:15
 name-at-requires : tie.Need-name-at-requires
 name-at-requires c κs = omega (arith, row-room _ _ _ (c .before .before .pre .0) (c .before .before .pre .1))
 
--- src/lib.rt:39:15
 add-t5 : tie.Need-add-t5
 add-t5 c = search needs
 
--- src/lib.rt:40:13
 add-t7 : tie.Need-add-t7
 add-t7 c = search needs
 
--- src/lib.rt:40:13
 add-t8 : tie.Need-add-t8
 add-t8 c = search needs
 
--- src/lib.rt:41:15
 add-t9 : tie.Need-add-t9
 add-t9 c = search needs
 
--- src/lib.rt:41:24
 add-t10 : tie.Need-add-t10
 add-t10 c = search needs
 
--- src/lib.rt:41:23
 mul-t12 : tie.Need-mul-t12
 mul-t12 c = search needs
 
--- src/lib.rt:41:15
 add-t13 : tie.Need-add-t13
 add-t13 c = search needs
 
--- src/lib.rt:32:1
 returns : tie.Need-returns
 returns c =
     let r = c .before .before .before .pre .0 in

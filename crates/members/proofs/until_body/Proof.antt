@@ -1,3 +1,4 @@
+-- The loop keeps what is still to come equal to the whole answer; one turn and the end are laws of Laws.
 use Prim.Native.Nat.{ℕ, _+_, _-_, _≤_}
 use native.Mathlib.Omega.{arith}
 use borrow.Author.Needs.{needs}
@@ -15,27 +16,21 @@ Inv-loop s p e q₀ q = (q ≤ e) × Row s q e × Stopping s p e q
 abbrev μ-loop : tie.MeasureT-loop
 μ-loop s p e q₀ q = e - q
 
--- src/lib.rt:93:5
 loop-holds : tie.Need-loop-holds Inv-loop μ-loop
 loop-holds c = search (loop-laws, needs)
 
--- src/lib.rt:94:13
 sibling-at-requires : tie.Need-sibling-at-requires Inv-loop μ-loop
 sibling-at-requires c κs = search (loop-laws, needs)
 
--- src/lib.rt:96:13
 returns : tie.Need-returns Inv-loop μ-loop
 returns c = search (loop-laws, needs)
 
--- src/lib.rt:93:5
 loop-less : tie.Need-loop-less Inv-loop μ-loop
 loop-less c = search (loop-laws, needs)
 
--- src/lib.rt:93:5
 loop-again : tie.Need-loop-again Inv-loop μ-loop
 loop-again c = search (loop-laws, needs)
 
--- src/lib.rt:88:1
 returns-2 : tie.Need-returns-2 Inv-loop μ-loop
 returns-2 c = stopping-end _ _ _ _ (omega arith) (c .before .loop .inv .2)
 

@@ -1,3 +1,4 @@
+-- Each way through the code takes the same branch of the definition.
 use borrow.Author.Needs.{needs}
 use Rattle.name.proofs.type_byte.Statement.{statement}
 use Rattle.name.proofs.type_byte.Tie as tie
@@ -6,23 +7,18 @@ use Rattle.name.proofs.type_byte.Lts as lts
 use Rattle.name.proofs.both.Reads as both-reads
 use Rattle.name.proofs.either.Reads as either-reads
 
--- src/lib.rt:49:12
 both-requires : tie.Need-both-requires
 both-requires c κs = search needs
 
--- src/lib.rt:49:43
 both-requires-2 : tie.Need-both-requires-2
 both-requires-2 c κs = search needs
 
--- src/lib.rt:49:36
 either-requires : tie.Need-either-requires
 either-requires c κs = search needs
 
--- src/lib.rt:49:5
 either-requires-2 : tie.Need-either-requires-2
 either-requires-2 c κs = search needs
 
--- src/lib.rt:46:1
 returns : tie.Need-returns
 returns c = cc
 

@@ -1,3 +1,4 @@
+-- Each way through the code takes the same branch of the definition; the places it reads lie inside by laws of Laws.
 use borrow.Author.Needs.{needs}
 use Rattle.picture.proofs.Laws.{size-order, size-inside, size-room, size-room-0, destination-none, destination-some}
 use Rattle.picture.proofs.destination_of.Statement.{statement}
@@ -6,35 +7,27 @@ use Rattle.picture.proofs.destination_of.Reads as reads
 use Rattle.picture.proofs.destination_of.Lts as lts
 use Rattle.fields.proofs.dest_fields.Reads as dest-fields-reads
 
--- src/lib.rt:65:26
 enum-told : tie.Need-enum-told
 enum-told c = search needs
 
--- src/lib.rt:72:23
 enum-known-part : tie.Need-enum-known-part
 enum-known-part c = search needs
 
--- src/lib.rt:72:48
 sub-dest-fields : tie.Need-sub-dest-fields
 sub-dest-fields c = search (size-order, needs)
 
--- src/lib.rt:72:48
 part-dest-fields-start : tie.Need-part-dest-fields-start
 part-dest-fields-start c = search (size-order, needs)
 
--- src/lib.rt:72:48
 part-dest-fields-end : tie.Need-part-dest-fields-end
 part-dest-fields-end c = search (size-inside, needs)
 
--- src/lib.rt:72:36
 dest-fields-requires : tie.Need-dest-fields-requires
 dest-fields-requires c κs = search (size-room, size-room-0, needs)
 
--- src/lib.rt:59:1
 returns : tie.Need-returns
 returns c = search (destination-none, needs)
 
--- src/lib.rt:59:1
 returns-2 : tie.Need-returns-2
 returns-2 c = search (destination-some, needs)
 

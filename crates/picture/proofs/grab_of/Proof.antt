@@ -1,3 +1,4 @@
+-- Each way through the code takes the same branch of the definition; the places it reads lie inside by laws of Laws.
 use borrow.Author.Needs.{needs}
 use Rattle.picture.proofs.Laws.{size-order, size-inside, size-room, size-room-0, grab-none, grab-some}
 use Rattle.picture.proofs.grab_of.Statement.{statement}
@@ -6,35 +7,27 @@ use Rattle.picture.proofs.grab_of.Reads as reads
 use Rattle.picture.proofs.grab_of.Lts as lts
 use Rattle.fields.proofs.grab_fields.Reads as grab-fields-reads
 
--- src/lib.rt:54:26
 enum-told : tie.Need-enum-told
 enum-told c = search needs
 
--- src/lib.rt:55:23
 enum-known-part : tie.Need-enum-known-part
 enum-known-part c = search needs
 
--- src/lib.rt:55:48
 sub-grab-fields : tie.Need-sub-grab-fields
 sub-grab-fields c = search (size-order, needs)
 
--- src/lib.rt:55:48
 part-grab-fields-start : tie.Need-part-grab-fields-start
 part-grab-fields-start c = search (size-order, needs)
 
--- src/lib.rt:55:48
 part-grab-fields-end : tie.Need-part-grab-fields-end
 part-grab-fields-end c = search (size-inside, needs)
 
--- src/lib.rt:55:36
 grab-fields-requires : tie.Need-grab-fields-requires
 grab-fields-requires c κs = search (size-room, size-room-0, needs)
 
--- src/lib.rt:48:1
 returns : tie.Need-returns
 returns c = search (grab-none, needs)
 
--- src/lib.rt:48:1
 returns-2 : tie.Need-returns-2
 returns-2 c = search (grab-some, needs)
 

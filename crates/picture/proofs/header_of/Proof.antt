@@ -1,3 +1,4 @@
+-- Each way through the code takes the same branch of the definition; the places it reads lie inside by laws of Laws.
 use borrow.Author.Needs.{needs}
 use Rattle.picture.proofs.Laws.{size-order, size-inside, size-room, size-room-0, header-none, header-some}
 use Rattle.picture.proofs.header_of.Statement.{statement}
@@ -6,35 +7,27 @@ use Rattle.picture.proofs.header_of.Reads as reads
 use Rattle.picture.proofs.header_of.Lts as lts
 use Rattle.fields.proofs.bitmap_header.Reads as bitmap-header-reads
 
--- src/lib.rt:29:26
 enum-told : tie.Need-enum-told
 enum-told c = search needs
 
--- src/lib.rt:44:23
 enum-known-part : tie.Need-enum-known-part
 enum-known-part c = search needs
 
--- src/lib.rt:44:50
 sub-bitmap-header : tie.Need-sub-bitmap-header
 sub-bitmap-header c = search (size-order, needs)
 
--- src/lib.rt:44:50
 part-bitmap-header-start : tie.Need-part-bitmap-header-start
 part-bitmap-header-start c = search (size-order, needs)
 
--- src/lib.rt:44:50
 part-bitmap-header-end : tie.Need-part-bitmap-header-end
 part-bitmap-header-end c = search (size-inside, needs)
 
--- src/lib.rt:44:36
 bitmap-header-requires : tie.Need-bitmap-header-requires
 bitmap-header-requires c κs = search (size-room, size-room-0, needs)
 
--- src/lib.rt:23:1
 returns : tie.Need-returns
 returns c = search (header-none, needs)
 
--- src/lib.rt:23:1
 returns-2 : tie.Need-returns-2
 returns-2 c = search (header-some, needs)
 

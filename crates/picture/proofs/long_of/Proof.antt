@@ -1,3 +1,4 @@
+-- Each way through the code takes the same branch of the definition; the places it reads lie inside by laws of Laws.
 use borrow.Author.Needs.{needs}
 use Rattle.picture.proofs.Laws.{size-order, size-inside, size-room, size-room-0, long-none, long-some}
 use Rattle.picture.proofs.long_of.Statement.{statement}
@@ -6,35 +7,27 @@ use Rattle.picture.proofs.long_of.Reads as reads
 use Rattle.picture.proofs.long_of.Lts as lts
 use Rattle.fields.proofs.long_at.Reads as long-at-reads
 
--- src/lib.rt:93:26
 enum-told : tie.Need-enum-told
 enum-told c = search needs
 
--- src/lib.rt:94:23
 enum-known-part : tie.Need-enum-known-part
 enum-known-part c = search needs
 
--- src/lib.rt:94:44
 sub-long-at : tie.Need-sub-long-at
 sub-long-at c = search (size-order, needs)
 
--- src/lib.rt:94:44
 part-long-at-start : tie.Need-part-long-at-start
 part-long-at-start c = search (size-order, needs)
 
--- src/lib.rt:94:44
 part-long-at-end : tie.Need-part-long-at-end
 part-long-at-end c = search (size-inside, needs)
 
--- src/lib.rt:94:36
 long-at-requires : tie.Need-long-at-requires
 long-at-requires c κs = search (size-room, size-room-0, needs)
 
--- src/lib.rt:87:1
 returns : tie.Need-returns
 returns c = search (long-none, needs)
 
--- src/lib.rt:87:1
 returns-2 : tie.Need-returns-2
 returns-2 c = search (long-some, needs)
 

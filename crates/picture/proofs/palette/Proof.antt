@@ -1,3 +1,4 @@
+-- Each way through the code takes the same branch of the definition; the places it reads lie inside by laws of Laws.
 use borrow.Author.Needs.{needs}
 use Rattle.picture.proofs.Laws.{seen-judged, palette-seen, palette-unseen}
 use Rattle.picture.proofs.palette.Statement.{statement}
@@ -7,39 +8,30 @@ use Rattle.picture.proofs.palette.Lts as lts
 use Rattle.picture.proofs.palette_in.Reads as palette-in-reads
 use Rattle.view.proofs.view_picture.Reads as view-picture-reads
 
--- src/lib.rt:157:9
 view-picture-requires : tie.Need-view-picture-requires
 view-picture-requires c κs = search needs
 
--- src/lib.rt:159:20
 enum-known-v : tie.Need-enum-known-v
 enum-known-v c = search needs
 
--- src/lib.rt:159:26
 palette-in-requires : tie.Need-palette-in-requires
 palette-in-requires c κs = search (seen-judged, needs)
 
--- src/lib.rt:160:31
 enum-told : tie.Need-enum-told
 enum-told c = search needs
 
--- src/lib.rt:160:31
 sub-result : tie.Need-sub-result
 sub-result c = search needs
 
--- src/lib.rt:160:31
 part-result-start : tie.Need-part-result-start
 part-result-start c = search needs
 
--- src/lib.rt:160:31
 part-result-end : tie.Need-part-result-end
 part-result-end c = search needs
 
--- src/lib.rt:154:1
 returns : tie.Need-returns
 returns c = search (palette-seen, needs)
 
--- src/lib.rt:154:1
 returns-2 : tie.Need-returns-2
 returns-2 c = search (palette-unseen, needs)
 

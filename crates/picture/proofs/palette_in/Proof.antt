@@ -1,3 +1,4 @@
+-- Each way through the code takes the same branch of the definition; the places it reads lie inside by laws of Laws.
 use borrow.Author.Needs.{needs}
 use Rattle.picture.proofs.Laws.{palette-order, palette-inside, palette-default, palette-own}
 use Rattle.picture.proofs.palette_in.Statement.{statement}
@@ -5,31 +6,24 @@ use Rattle.picture.proofs.palette_in.Tie as tie
 use Rattle.picture.proofs.palette_in.Reads as reads
 use Rattle.picture.proofs.palette_in.Lts as lts
 
--- src/lib.rt:142:26
 enum-told : tie.Need-enum-told
 enum-told c = search needs
 
--- src/lib.rt:143:23
 enum-known-part : tie.Need-enum-known-part
 enum-known-part c = search needs
 
--- src/lib.rt:143:36
 sub-result : tie.Need-sub-result
 sub-result c = search (palette-order, needs)
 
--- src/lib.rt:143:36
 part-result-start : tie.Need-part-result-start
 part-result-start c = search (palette-order, needs)
 
--- src/lib.rt:143:36
 part-result-end : tie.Need-part-result-end
 part-result-end c = search (palette-inside, needs)
 
--- src/lib.rt:135:1
 returns : tie.Need-returns
 returns c = search (palette-default, palette-own, needs)
 
--- src/lib.rt:135:1
 returns-2 : tie.Need-returns-2
 returns-2 c = search (palette-default, palette-own, needs)
 

@@ -1,3 +1,4 @@
+-- Each way through the code takes the same branch of the definition; the places it reads lie inside by laws of Laws.
 use borrow.Author.Needs.{needs}
 use Rattle.picture.proofs.Laws.{bmhd-right, grab-right, dest-right, sprt-right, camg-right, picture-told}
 use Rattle.picture.proofs.picture_from.Statement.{statement}
@@ -10,27 +11,21 @@ use Rattle.picture.proofs.header_of.Reads as header-of-reads
 use Rattle.picture.proofs.long_of.Reads as long-of-reads
 use Rattle.picture.proofs.word_of.Reads as word-of-reads
 
--- src/lib.rt:115:17
 header-of-requires : tie.Need-header-of-requires
 header-of-requires c κs = search (bmhd-right, needs)
 
--- src/lib.rt:118:15
 grab-of-requires : tie.Need-grab-of-requires
 grab-of-requires c κs = search (grab-right, needs)
 
--- src/lib.rt:120:22
 destination-of-requires : tie.Need-destination-of-requires
 destination-of-requires c κs = search (dest-right, needs)
 
--- src/lib.rt:122:17
 word-of-requires : tie.Need-word-of-requires
 word-of-requires c κs = search (sprt-right, needs)
 
--- src/lib.rt:124:20
 long-of-requires : tie.Need-long-of-requires
 long-of-requires c κs = search (camg-right, needs)
 
--- src/lib.rt:98:1
 returns : tie.Need-returns
 returns c = search (picture-told, needs)
 

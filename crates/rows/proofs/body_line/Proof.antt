@@ -1,3 +1,4 @@
+-- Each way through the code takes the same branch of the definition; the places it reads lie inside by laws of Laws.
 use native.Mathlib.Omega.{arith}
 use Rattle.picture.proofs.Laws.{bmhd-right}
 use borrow.Author.Needs.{needs}
@@ -9,68 +10,52 @@ use Rattle.rows.proofs.body_line.Lts as lts
 use Rattle.picture.proofs.header_of.Reads as header-of-reads
 use Rattle.scan.proofs.scan_row.Reads as scan-row-reads
 
--- src/lib.rt:25:8
 sub-if1 : tie.Need-sub-if1
 sub-if1 c = search (body-order, needs)
 
--- src/lib.rt:26:9
 returns : tie.Need-returns
 returns c = search (line-29, needs)
 
--- src/lib.rt:32:9
 header-of-requires : tie.Need-header-of-requires
 header-of-requires c κs = search (bmhd-right, needs)
 
--- src/lib.rt:33:13
 cast-w : tie.Need-cast-w
 cast-w c = search needs
 
--- src/lib.rt:35:9
 returns-2 : tie.Need-returns-2
 returns-2 c = search (line-28, needs)
 
--- src/lib.rt:40:18
 cast-planes : tie.Need-cast-planes
 cast-planes c = search needs
 
--- src/lib.rt:42:28
 sub-scan-row : tie.Need-sub-scan-row
 sub-scan-row c = search (body-order, needs)
 
--- src/lib.rt:42:28
 part-scan-row-start : tie.Need-part-scan-row-start
 part-scan-row-start c = search (body-order, needs)
 
--- src/lib.rt:42:28
 part-scan-row-end : tie.Need-part-scan-row-end
 part-scan-row-end c = search (body-inside, needs)
 
--- src/lib.rt:42:9
 scan-row-requires : tie.Need-scan-row-requires
 scan-row-requires c κs =
     ((omega arith, planes-8 _ _ _ (c .before .before .before .before .before .before .before .before .before .before .before .pre .0) (c .before .before .before .before .before .before .header-of .ensures)), c .before .before .before .before .if2 .left)
 
--- src/lib.rt:44:23
 enum-known-scanned : tie.Need-enum-known-scanned
 enum-known-scanned c = search needs
 
--- src/lib.rt:45:26
 enum-known-scanned-2 : tie.Need-enum-known-scanned-2
 enum-known-scanned-2 c = search needs
 
--- src/lib.rt:21:1
 same-length : tie.Need-same-length
 same-length c = search needs
 
--- src/lib.rt:21:1
 returns-3 : tie.Need-returns-3
 returns-3 c = search (line-next, needs)
 
--- src/lib.rt:21:1
 same-length-2 : tie.Need-same-length-2
 same-length-2 c = search needs
 
--- src/lib.rt:21:1
 returns-4 : tie.Need-returns-4
 returns-4 c = search (line-fault, needs)
 

@@ -1,3 +1,4 @@
+-- Each way through the code takes the same branch of the definition; the places it reads lie inside by laws of Laws.
 use borrow.Author.Needs.{needs}
 use Rattle.rows.proofs.Laws.{frame-25}
 use Rattle.rows.proofs.picture_frame.Statement.{statement}
@@ -6,27 +7,21 @@ use Rattle.rows.proofs.picture_frame.Reads as reads
 use Rattle.rows.proofs.picture_frame.Lts as lts
 use Rattle.rows.proofs.body_frame.Reads as body-frame-reads
 
--- src/lib.rt:114:26
 enum-told : tie.Need-enum-told
 enum-told c = search needs
 
--- src/lib.rt:118:23
 enum-known-body : tie.Need-enum-known-body
 enum-known-body c = search needs
 
--- src/lib.rt:118:32
 body-frame-requires : tie.Need-body-frame-requires
 body-frame-requires c κs = search needs
 
--- src/lib.rt:108:1
 returns : tie.Need-returns
 returns c = search (frame-25, needs)
 
--- src/lib.rt:108:1
 same-length : tie.Need-same-length
 same-length c = search needs
 
--- src/lib.rt:108:1
 returns-2 : tie.Need-returns-2
 returns-2 c = search needs
 

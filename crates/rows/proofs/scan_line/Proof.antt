@@ -1,3 +1,4 @@
+-- Each way through the code takes the same branch of the definition; the places it reads lie inside by laws of Laws.
 use borrow.Author.Needs.{needs}
 use Rattle.rows.proofs.Laws.{seen-judged, line-seen, line-unseen}
 use Rattle.rows.proofs.scan_line.Statement.{statement}
@@ -7,33 +8,26 @@ use Rattle.rows.proofs.scan_line.Lts as lts
 use Rattle.rows.proofs.picture_line.Reads as picture-line-reads
 use Rattle.view.proofs.view_picture.Reads as view-picture-reads
 
--- src/lib.rt:69:9
 view-picture-requires : tie.Need-view-picture-requires
 view-picture-requires c κs = search needs
 
--- src/lib.rt:71:20
 enum-known-v : tie.Need-enum-known-v
 enum-known-v c = search needs
 
--- src/lib.rt:71:26
 picture-line-requires : tie.Need-picture-line-requires
 picture-line-requires c κs = search (seen-judged, needs)
 
--- src/lib.rt:72:22
 enum-known-v-2 : tie.Need-enum-known-v-2
 enum-known-v-2 c = search needs
 
--- src/lib.rt:65:1
 same-length : tie.Need-same-length
 same-length c = search needs
 
--- src/lib.rt:65:1
 returns : tie.Need-returns
 returns c =
     line-seen _ _ _ (c .before .before .before .before .before .before .before .view-picture .ensures) _ _ _ _ _ (c .before .before .before .before .before .v .given .1)
     (c .before .before .picture-line .ensures)
 
--- src/lib.rt:65:1
 returns-2 : tie.Need-returns-2
 returns-2 c = line-unseen _ _ _ (c .before .before .before .view-picture .ensures) _ _ _ _ (c .before .v2 .given .1)
 

@@ -1,3 +1,4 @@
+-- Each way through the code takes the same branch of the definition; the places it reads lie inside by laws of WalkLaws.
 use Rattle.tree.proofs.WalkLaws.{file-laws}
 use borrow.Author.Needs.{needs}
 use Rattle.tree.proofs.check.Statement.{statement}
@@ -10,43 +11,33 @@ use Rattle.tree.proofs.is_section.Reads as is-section-reads
 use Rattle.tree.proofs.name_at.Reads as name-at-reads
 use Rattle.tree.proofs.outermost.Reads as outermost-reads
 
--- src/lib.rt:413:9
 returns : tie.Need-returns
 returns c = search (file-laws, needs)
 
--- src/lib.rt:416:9
 returns-2 : tie.Need-returns-2
 returns-2 c = search (file-laws, needs)
 
--- src/lib.rt:418:9
 name-at-requires : tie.Need-name-at-requires
 name-at-requires c κs = search needs
 
--- src/lib.rt:419:8
 is-version-requires : tie.Need-is-version-requires
 is-version-requires c κs = search needs
 
--- src/lib.rt:420:9
 returns-3 : tie.Need-returns-3
 returns-3 c = search (file-laws, needs)
 
--- src/lib.rt:422:19
 kind-requires : tie.Need-kind-requires
 kind-requires c κs = search needs
 
--- src/lib.rt:422:8
 is-section-requires : tie.Need-is-section-requires
 is-section-requires c κs = search needs
 
--- src/lib.rt:423:9
 outermost-requires : tie.Need-outermost-requires
 outermost-requires c κs = search needs
 
--- src/lib.rt:423:9
 returns-4 : tie.Need-returns-4
 returns-4 c = search (file-laws, needs)
 
--- src/lib.rt:409:1
 returns-5 : tie.Need-returns-5
 returns-5 c = search (file-laws, needs)
 

@@ -6,39 +6,30 @@ use Rattle.tree.proofs.digit.Tie as tie
 use Rattle.tree.proofs.digit.Reads as reads
 use Rattle.tree.proofs.digit.Lts as lts
 
--- src/lib.rt:329:20
 cast-result : tie.Need-cast-result
 cast-result c = search needs
 
--- src/lib.rt:329:13
 returns : tie.Need-returns
 returns c = search (repeat-laws, needs)
 
--- src/lib.rt:331:9
 returns-2 : tie.Need-returns-2
 returns-2 c = search (repeat-laws, needs)
 
--- src/lib.rt:335:21
 sub-result : tie.Need-sub-result
 sub-result c = search needs
 
--- src/lib.rt:335:20
 cast-result-2 : tie.Need-cast-result-2
 cast-result-2 c = search needs
 
--- src/lib.rt:335:13
 returns-3 : tie.Need-returns-3
 returns-3 c = search (repeat-laws, needs)
 
--- src/lib.rt:337:9
 returns-4 : tie.Need-returns-4
 returns-4 c = search (repeat-laws, needs)
 
--- src/lib.rt:340:9
 returns-5 : tie.Need-returns-5
 returns-5 c = search (repeat-laws, needs)
 
--- src/lib.rt:324:1
 returns-6 : tie.Need-returns-6
 returns-6 c = search (repeat-laws, needs)
 

@@ -9,35 +9,27 @@ use Rattle.tree.proofs.in_class.Reads as in-class-reads
 use Rattle.tree.proofs.name_at.Reads as name-at-reads
 use Rattle.tree.proofs.slot.Reads as slot-reads
 
--- src/lib.rt:373:8
 in-class-requires : tie.Need-in-class-requires
 in-class-requires c κs = search needs
 
--- src/lib.rt:374:33
 add-name-at : tie.Need-add-name-at
 add-name-at c = search needs
 
--- src/lib.rt:374:22
 name-at-requires : tie.Need-name-at-requires
 name-at-requires c κs = search needs
 
--- src/lib.rt:374:13
 slot-requires : tie.Need-slot-requires
 slot-requires c κs = search needs
 
--- src/lib.rt:375:22
 element-copy-out-before : tie.Need-element-copy-out-before
 element-copy-out-before c = search needs
 
--- src/lib.rt:376:9
 element-write-flags : tie.Need-element-write-flags
 element-write-flags c = search needs
 
--- src/lib.rt:368:1
 returns : tie.Need-returns
 returns c = search (repeat-laws, needs)
 
--- src/lib.rt:368:1
 returns-2 : tie.Need-returns-2
 returns-2 c = search (repeat-laws, needs)
 

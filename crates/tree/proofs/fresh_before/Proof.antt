@@ -15,31 +15,24 @@ Inv-loop s from limit r₀ class₀ r class = (r ≤ length s - 11) × Covered c
 abbrev μ-loop : tie.MeasureT-loop
 μ-loop s from limit r₀ class₀ r class = 37 - class
 
--- src/lib.rt:406:9
 fresh-in-class-requires : tie.Need-fresh-in-class-requires Inv-loop μ-loop
 fresh-in-class-requires c κs = search (repeat-laws, needs)
 
--- src/lib.rt:408:5
 loop-holds : tie.Need-loop-holds Inv-loop μ-loop
 loop-holds c = search (repeat-laws, needs)
 
--- src/lib.rt:409:9
 fresh-in-class-requires-2 : tie.Need-fresh-in-class-requires-2 Inv-loop μ-loop
 fresh-in-class-requires-2 c κs = search (repeat-laws, needs)
 
--- src/lib.rt:410:17
 add-class : tie.Need-add-class Inv-loop μ-loop
 add-class c = search (repeat-laws, needs)
 
--- src/lib.rt:408:5
 loop-less : tie.Need-loop-less Inv-loop μ-loop
 loop-less c = search (repeat-laws, needs)
 
--- src/lib.rt:408:5
 loop-again : tie.Need-loop-again Inv-loop μ-loop
 loop-again c = search (repeat-laws, needs)
 
--- src/lib.rt:402:1
 returns : tie.Need-returns Inv-loop μ-loop
 returns c = search (repeat-laws, needs)
 

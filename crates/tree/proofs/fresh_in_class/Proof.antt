@@ -17,31 +17,24 @@ Inv-loop s from limit class flags₀ q₀ flags q = (length flags ≡ 54872) × 
 abbrev μ-loop : tie.MeasureT-loop
 μ-loop s from limit class flags₀ q₀ flags q = limit - q
 
--- src/lib.rt:391:5
 loop-holds : tie.Need-loop-holds Inv-loop μ-loop
 loop-holds c = (length-replicate {A = ℕ} 54872 0, search (repeat-laws, needs))
 
--- src/lib.rt:392:12
 flagged-requires : tie.Need-flagged-requires Inv-loop μ-loop
 flagged-requires c κs = search (repeat-laws, needs)
 
--- src/lib.rt:393:13
 returns : tie.Need-returns Inv-loop μ-loop
 returns c = search (repeat-laws, needs)
 
--- src/lib.rt:395:9
 next-at-requires : tie.Need-next-at-requires Inv-loop μ-loop
 next-at-requires c κs = search (repeat-laws, needs)
 
--- src/lib.rt:391:5
 loop-less : tie.Need-loop-less Inv-loop μ-loop
 loop-less c = search (repeat-laws, needs)
 
--- src/lib.rt:391:5
 loop-again : tie.Need-loop-again Inv-loop μ-loop
 loop-again c = search (repeat-laws, needs)
 
--- src/lib.rt:384:1
 returns-2 : tie.Need-returns-2 Inv-loop μ-loop
 returns-2 c = search (repeat-laws, needs)
 

@@ -7,47 +7,36 @@ use Rattle.tree.proofs.fresh_in_group.Reads as reads
 use Rattle.tree.proofs.fresh_in_group.Lts as lts
 use Rattle.tree.proofs.fresh_in_list.Reads as fresh-in-list-reads
 
--- src/lib.rt:459:32
 enum-told : tie.Need-enum-told
 enum-told c = search needs
 
--- src/lib.rt:460:29
 enum-told-2 : tie.Need-enum-told-2
 enum-told-2 c = search needs
 
--- src/lib.rt:461:29
 enum-told-3 : tie.Need-enum-told-3
 enum-told-3 c = search needs
 
--- src/lib.rt:462:29
 enum-told-4 : tie.Need-enum-told-4
 enum-told-4 c = search needs
 
--- src/lib.rt:462:29
 fresh-in-list-requires : tie.Need-fresh-in-list-requires
 fresh-in-list-requires c κs = search needs
 
--- src/lib.rt:463:28
 enum-told-5 : tie.Need-enum-told-5
 enum-told-5 c = search needs
 
--- src/lib.rt:454:1
 returns : tie.Need-returns
 returns c = search (repeat-laws, needs)
 
--- src/lib.rt:454:1
 returns-2 : tie.Need-returns-2
 returns-2 c = search (repeat-laws, needs)
 
--- src/lib.rt:454:1
 returns-3 : tie.Need-returns-3
 returns-3 c = search (repeat-laws, needs)
 
--- src/lib.rt:454:1
 returns-4 : tie.Need-returns-4
 returns-4 c = search needs
 
--- src/lib.rt:454:1
 returns-5 : tie.Need-returns-5
 returns-5 c = search (repeat-laws, needs)
 

@@ -1,3 +1,4 @@
+-- Each way through the code takes the same branch of the definition; the places it reads lie inside by laws of HeaderLaws.
 use mathlib.Core.Path.{refl}
 use native.Mathlib.Omega.{arith}
 use Rattle.tree.proofs.HeaderLaws.{refuse-9, refuse-10, refuse-11, refuse-12, group-sound}
@@ -10,39 +11,30 @@ use Rattle.tree.proofs.group_type.Reads as group-type-reads
 use Rattle.tree.proofs.name_at.Reads as name-at-reads
 use Rattle.tree.proofs.second_prop.Reads as second-prop-reads
 
--- src/lib.rt:284:9
 returns : tie.Need-returns
 returns c = search (refuse-9, needs)
 
--- src/lib.rt:287:9
 returns-2 : tie.Need-returns-2
 returns-2 c = search (refuse-10, needs)
 
--- src/lib.rt:289:24
 add-name-at : tie.Need-add-name-at
 add-name-at c = search needs
 
--- src/lib.rt:289:9
 name-at-requires : tie.Need-name-at-requires
 name-at-requires c κs = search needs
 
--- src/lib.rt:290:8
 group-type-requires : tie.Need-group-type-requires
 group-type-requires c κs = search needs
 
--- src/lib.rt:291:12
 second-prop-requires : tie.Need-second-prop-requires
 second-prop-requires c κs = search needs
 
--- src/lib.rt:292:13
 returns-3 : tie.Need-returns-3
 returns-3 c = search (refuse-12, needs)
 
--- src/lib.rt:294:9
 returns-4 : tie.Need-returns-4
 returns-4 c = (search (group-sound, needs), (refl, refl, omega arith, omega arith))
 
--- src/lib.rt:278:1
 returns-5 : tie.Need-returns-5
 returns-5 c = search (refuse-11, needs)
 

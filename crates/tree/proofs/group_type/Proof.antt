@@ -1,3 +1,4 @@
+-- Each way through the code takes the same branch of the definition.
 use borrow.Author.Needs.{needs}
 use Rattle.tree.proofs.group_type.Statement.{statement}
 use Rattle.tree.proofs.group_type.Tie as tie
@@ -6,67 +7,51 @@ use Rattle.tree.proofs.group_type.Lts as lts
 use Rattle.name.proofs.Name.is_type.Reads as is-type-reads
 use Rattle.name.proofs.Name.is_well_formed.Reads as is-well-formed-reads
 
--- src/lib.rt:225:23
 enum-told : tie.Need-enum-told
 enum-told c = search needs
 
--- src/lib.rt:225:23
 is-type-requires : tie.Need-is-type-requires
 is-type-requires c κs = search needs
 
--- src/lib.rt:226:23
 enum-told-2 : tie.Need-enum-told-2
 enum-told-2 c = search needs
 
--- src/lib.rt:226:23
 is-well-formed-requires : tie.Need-is-well-formed-requires
 is-well-formed-requires c κs = search needs
 
--- src/lib.rt:227:22
 enum-told-3 : tie.Need-enum-told-3
 enum-told-3 c = search needs
 
--- src/lib.rt:227:22
 is-well-formed-requires-2 : tie.Need-is-well-formed-requires-2
 is-well-formed-requires-2 c κs = search needs
 
--- src/lib.rt:228:23
 enum-told-4 : tie.Need-enum-told-4
 enum-told-4 c = search needs
 
--- src/lib.rt:228:23
 is-type-requires-2 : tie.Need-is-type-requires-2
 is-type-requires-2 c κs = search needs
 
--- src/lib.rt:229:25
 enum-told-5 : tie.Need-enum-told-5
 enum-told-5 c = search needs
 
--- src/lib.rt:230:24
 enum-told-6 : tie.Need-enum-told-6
 enum-told-6 c = search needs
 
--- src/lib.rt:221:1
 returns : tie.Need-returns
 returns c = cc
 
--- src/lib.rt:221:1
 returns-2 : tie.Need-returns-2
 returns-2 c = cc
 
--- src/lib.rt:221:1
 returns-3 : tie.Need-returns-3
 returns-3 c = cc
 
--- src/lib.rt:221:1
 returns-4 : tie.Need-returns-4
 returns-4 c = cc
 
--- src/lib.rt:221:1
 returns-5 : tie.Need-returns-5
 returns-5 c = search needs
 
--- src/lib.rt:221:1
 returns-6 : tie.Need-returns-6
 returns-6 c = search needs
 

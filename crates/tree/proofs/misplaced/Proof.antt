@@ -7,15 +7,12 @@ use Rattle.tree.proofs.misplaced.Reads as reads
 use Rattle.tree.proofs.misplaced.Lts as lts
 use Rattle.tree.proofs.allowed.Reads as allowed-reads
 
--- src/lib.rt:230:9
 returns : tie.Need-returns
 returns c = search (laws, needs)
 
--- src/lib.rt:232:6
 allowed-requires : tie.Need-allowed-requires
 allowed-requires c κs = search needs
 
--- src/lib.rt:225:1
 returns-2 : tie.Need-returns-2
 returns-2 c = search (laws, needs)
 

@@ -1,3 +1,4 @@
+-- Each way through the code takes the same branch of the definition.
 use Rattle.tree.specs.Chunks.{word}
 use borrow.Author.Needs.{needs}
 use Rattle.tree.proofs.name_at.Statement.{statement}
@@ -6,39 +7,30 @@ use Rattle.tree.proofs.name_at.Reads as reads
 use Rattle.tree.proofs.name_at.Lts as lts
 use Rattle.tree.proofs.quad_name.Reads as quad-name-reads
 
--- src/lib.rt:81:15
 shared-slice-read-quad-name : tie.Need-shared-slice-read-quad-name
 shared-slice-read-quad-name c = search needs
 
--- src/lib.rt:81:23
 add-quad-name : tie.Need-add-quad-name
 add-quad-name c = search needs
 
--- src/lib.rt:81:21
 shared-slice-read-quad-name-2 : tie.Need-shared-slice-read-quad-name-2
 shared-slice-read-quad-name-2 c = search needs
 
--- src/lib.rt:81:33
 add-quad-name-2 : tie.Need-add-quad-name-2
 add-quad-name-2 c = search needs
 
--- src/lib.rt:81:31
 shared-slice-read-quad-name-3 : tie.Need-shared-slice-read-quad-name-3
 shared-slice-read-quad-name-3 c = search needs
 
--- src/lib.rt:81:43
 add-quad-name-3 : tie.Need-add-quad-name-3
 add-quad-name-3 c = search needs
 
--- src/lib.rt:81:41
 shared-slice-read-quad-name-4 : tie.Need-shared-slice-read-quad-name-4
 shared-slice-read-quad-name-4 c = search needs
 
--- src/lib.rt:81:5
 quad-name-requires : tie.Need-quad-name-requires
 quad-name-requires c κs = search needs
 
--- src/lib.rt:77:1
 returns : tie.Need-returns
 unfolding word
 returns c = c .quad-name .ensures

@@ -1,3 +1,4 @@
+-- The loop keeps what is still to come equal to the whole answer; one turn and the end are laws of Laws.
 use Prim.Native.Nat.{ℕ, _-_}
 use mathlib.Core.Path.{refl}
 use native.Mathlib.Omega.{arith}
@@ -17,47 +18,36 @@ Inv-loop s from p t q₀ q = Scans s q p (t .code) (propBefore s from p (t .code
 abbrev μ-loop : tie.MeasureT-loop
 μ-loop s from p t q₀ q = p - q
 
--- src/lib.rt:252:5
 loop-holds : tie.Need-loop-holds Inv-loop μ-loop
 loop-holds c = let a = c .before .args in (a .p - a .from, (omega arith, refl))
 
--- src/lib.rt:253:12
 prop-at-requires : tie.Need-prop-at-requires Inv-loop μ-loop
 prop-at-requires c κs = search needs
 
--- src/lib.rt:254:13
 returns : tie.Need-returns Inv-loop μ-loop
 returns c = search (laws, needs)
 
--- src/lib.rt:256:28
 add-size-at : tie.Need-add-size-at Inv-loop μ-loop
 add-size-at c = search (laws, needs)
 
--- src/lib.rt:256:13
 size-at-requires : tie.Need-size-at-requires Inv-loop μ-loop
 size-at-requires c κs = search needs
 
--- src/lib.rt:257:13
 add-q : tie.Need-add-q Inv-loop μ-loop
 add-q c = search (laws, needs)
 
--- src/lib.rt:257:13
 add-q-2 : tie.Need-add-q-2 Inv-loop μ-loop
 add-q-2 c = search (laws, needs)
 
--- src/lib.rt:257:13
 add-q-3 : tie.Need-add-q-3 Inv-loop μ-loop
 add-q-3 c = search (laws, needs)
 
--- src/lib.rt:252:5
 loop-less : tie.Need-loop-less Inv-loop μ-loop
 loop-less c = search (laws, needs)
 
--- src/lib.rt:252:5
 loop-again : tie.Need-loop-again Inv-loop μ-loop
 loop-again c = search (laws, needs)
 
--- src/lib.rt:247:1
 returns-2 : tie.Need-returns-2 Inv-loop μ-loop
 returns-2 c = search (laws, needs)
 

@@ -15,39 +15,30 @@ Inv-loop s from limit q₀ chunks₀ q chunks = chunks ≤ q
 abbrev μ-loop : tie.MeasureT-loop
 μ-loop s from limit q₀ chunks₀ q chunks = limit - q
 
--- src/lib.rt:428:5
 loop-holds : tie.Need-loop-holds Inv-loop μ-loop
 loop-holds c = search needs
 
--- src/lib.rt:429:20
 name-at-requires : tie.Need-name-at-requires Inv-loop μ-loop
 name-at-requires c κs = search needs
 
--- src/lib.rt:429:13
 in-run-requires : tie.Need-in-run-requires Inv-loop μ-loop
 in-run-requires c κs = search needs
 
--- src/lib.rt:430:13
 returns : tie.Need-returns Inv-loop μ-loop
 returns c = search needs
 
--- src/lib.rt:432:9
 next-at-requires : tie.Need-next-at-requires Inv-loop μ-loop
 next-at-requires c κs = search needs
 
--- src/lib.rt:433:18
 add-chunks : tie.Need-add-chunks Inv-loop μ-loop
 add-chunks c = search needs
 
--- src/lib.rt:428:5
 loop-less : tie.Need-loop-less Inv-loop μ-loop
 loop-less c = search needs
 
--- src/lib.rt:428:5
 loop-again : tie.Need-loop-again Inv-loop μ-loop
 loop-again c = search needs
 
--- src/lib.rt:422:1
 returns-2 : tie.Need-returns-2 Inv-loop μ-loop
 returns-2 c = search needs
 

@@ -7,15 +7,12 @@ use Rattle.tree.proofs.repeated.Reads as reads
 use Rattle.tree.proofs.repeated.Lts as lts
 use Rattle.tree.proofs.prop_before.Reads as prop-before-reads
 
--- src/lib.rt:473:9
 returns : tie.Need-returns
 returns c = search (repeat-laws, needs)
 
--- src/lib.rt:475:5
 prop-before-requires : tie.Need-prop-before-requires
 prop-before-requires c κs = search needs
 
--- src/lib.rt:468:1
 returns-2 : tie.Need-returns-2
 returns-2 c = search needs
 

@@ -8,55 +8,42 @@ use Rattle.tree.proofs.second_prop.Reads as reads
 use Rattle.tree.proofs.second_prop.Lts as lts
 use Rattle.tree.proofs.repeated.Reads as repeated-reads
 
--- src/lib.rt:483:23
 enum-told : tie.Need-enum-told
 enum-told c = search needs
 
--- src/lib.rt:484:23
 enum-told-2 : tie.Need-enum-told-2
 enum-told-2 c = search needs
 
--- src/lib.rt:485:22
 enum-told-3 : tie.Need-enum-told-3
 enum-told-3 c = search needs
 
--- src/lib.rt:486:23
 enum-told-4 : tie.Need-enum-told-4
 enum-told-4 c = search needs
 
--- src/lib.rt:486:23
 repeated-requires : tie.Need-repeated-requires
 repeated-requires c κs = search (kind-prop, needs)
 
--- src/lib.rt:487:25
 enum-told-5 : tie.Need-enum-told-5
 enum-told-5 c = search needs
 
--- src/lib.rt:488:24
 enum-told-6 : tie.Need-enum-told-6
 enum-told-6 c = search needs
 
--- src/lib.rt:478:1
 returns : tie.Need-returns
 returns c = search needs
 
--- src/lib.rt:478:1
 returns-2 : tie.Need-returns-2
 returns-2 c = search needs
 
--- src/lib.rt:478:1
 returns-3 : tie.Need-returns-3
 returns-3 c = search needs
 
--- src/lib.rt:478:1
 returns-4 : tie.Need-returns-4
 returns-4 c = search (second-prop, needs)
 
--- src/lib.rt:478:1
 returns-5 : tie.Need-returns-5
 returns-5 c = search needs
 
--- src/lib.rt:478:1
 returns-6 : tie.Need-returns-6
 returns-6 c = search needs
 

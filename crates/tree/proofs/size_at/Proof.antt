@@ -1,3 +1,4 @@
+-- Each way through the code takes the same branch of the definition.
 use Rattle.tree.specs.Chunks.{word}
 use borrow.Author.Needs.{needs}
 use Rattle.tree.proofs.size_at.Statement.{statement}
@@ -6,39 +7,30 @@ use Rattle.tree.proofs.size_at.Reads as reads
 use Rattle.tree.proofs.size_at.Lts as lts
 use Rattle.tree.proofs.quad.Reads as quad-reads
 
--- src/lib.rt:73:10
 shared-slice-read-quad : tie.Need-shared-slice-read-quad
 shared-slice-read-quad c = search needs
 
--- src/lib.rt:73:18
 add-quad : tie.Need-add-quad
 add-quad c = search needs
 
--- src/lib.rt:73:16
 shared-slice-read-quad-2 : tie.Need-shared-slice-read-quad-2
 shared-slice-read-quad-2 c = search needs
 
--- src/lib.rt:73:28
 add-quad-2 : tie.Need-add-quad-2
 add-quad-2 c = search needs
 
--- src/lib.rt:73:26
 shared-slice-read-quad-3 : tie.Need-shared-slice-read-quad-3
 shared-slice-read-quad-3 c = search needs
 
--- src/lib.rt:73:38
 add-quad-3 : tie.Need-add-quad-3
 add-quad-3 c = search needs
 
--- src/lib.rt:73:36
 shared-slice-read-quad-4 : tie.Need-shared-slice-read-quad-4
 shared-slice-read-quad-4 c = search needs
 
--- src/lib.rt:73:5
 quad-requires : tie.Need-quad-requires
 quad-requires c κs = search needs
 
--- src/lib.rt:69:1
 returns : tie.Need-returns
 unfolding word
 returns c = c .quad .ensures

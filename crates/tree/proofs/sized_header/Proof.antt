@@ -1,3 +1,4 @@
+-- Each way through the code takes the same branch of the definition; the places it reads lie inside by laws of HeaderLaws.
 use Rattle.tree.proofs.HeaderLaws.{refuse-7, refuse-8, of-group, group-fits, of-leaf, leaf-fits}
 use borrow.Author.Needs.{needs}
 use Rattle.tree.proofs.sized_header.Statement.{statement}
@@ -8,51 +9,39 @@ use Rattle.tree.proofs.group_header.Reads as group-header-reads
 use Rattle.tree.proofs.is_group.Reads as is-group-reads
 use Rattle.tree.proofs.size_at.Reads as size-at-reads
 
--- src/lib.rt:306:16
 sub-room : tie.Need-sub-room
 sub-room c = search needs
 
--- src/lib.rt:306:16
 sub-room-2 : tie.Need-sub-room-2
 sub-room-2 c = search needs
 
--- src/lib.rt:307:24
 add-size-at : tie.Need-add-size-at
 add-size-at c = search needs
 
--- src/lib.rt:307:9
 size-at-requires : tie.Need-size-at-requires
 size-at-requires c κs = search needs
 
--- src/lib.rt:309:9
 returns : tie.Need-returns
 returns c = search (refuse-7, needs)
 
--- src/lib.rt:311:16
 add-if2 : tie.Need-add-if2
 add-if2 c = search needs
 
--- src/lib.rt:311:15
 mul-if2 : tie.Need-mul-if2
 mul-if2 c = search needs
 
--- src/lib.rt:312:9
 returns-2 : tie.Need-returns-2
 returns-2 c = search (refuse-8, needs)
 
--- src/lib.rt:314:8
 is-group-requires : tie.Need-is-group-requires
 is-group-requires c κs = search needs
 
--- src/lib.rt:315:9
 group-header-requires : tie.Need-group-header-requires
 group-header-requires c κs = search needs
 
--- src/lib.rt:315:9
 returns-3 : tie.Need-returns-3
 returns-3 c = search (of-group, group-fits, needs)
 
--- src/lib.rt:301:1
 returns-4 : tie.Need-returns-4
 returns-4 c = search (of-leaf, leaf-fits, needs)
 

@@ -7,35 +7,27 @@ use Rattle.tree.proofs.slot.Reads as reads
 use Rattle.tree.proofs.slot.Lts as lts
 use Rattle.tree.proofs.digit.Reads as digit-reads
 
--- src/lib.rt:349:9
 digit-requires : tie.Need-digit-requires
 digit-requires c κs = search needs
 
--- src/lib.rt:350:9
 digit-requires-2 : tie.Need-digit-requires-2
 digit-requires-2 c κs = search needs
 
--- src/lib.rt:351:9
 digit-requires-3 : tie.Need-digit-requires-3
 digit-requires-3 c κs = search needs
 
--- src/lib.rt:352:5
 mul-result : tie.Need-mul-result
 mul-result c = search needs
 
--- src/lib.rt:352:16
 mul-result-2 : tie.Need-mul-result-2
 mul-result-2 c = search needs
 
--- src/lib.rt:352:5
 add-result : tie.Need-add-result
 add-result c = search needs
 
--- src/lib.rt:352:5
 add-result-2 : tie.Need-add-result-2
 add-result-2 c = search needs
 
--- src/lib.rt:346:1
 returns : tie.Need-returns
 returns c = search (repeat-laws, needs)
 

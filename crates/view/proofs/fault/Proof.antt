@@ -1,3 +1,4 @@
+-- Each way through the code takes the same branch of the definition; the places it reads lie inside by laws of ViewLaws.
 use Rattle.view.proofs.ViewLaws.{fault-21}
 use borrow.Author.Needs.{needs}
 use Rattle.view.proofs.fault.Statement.{statement}
@@ -6,23 +7,18 @@ use Rattle.view.proofs.fault.Reads as reads
 use Rattle.view.proofs.fault.Lts as lts
 use Rattle.view.proofs.sized_fault.Reads as sized-fault-reads
 
--- src/lib.rt:127:26
 enum-told : tie.Need-enum-told
 enum-told c = search needs
 
--- src/lib.rt:128:23
 enum-known-part : tie.Need-enum-known-part
 enum-known-part c = search needs
 
--- src/lib.rt:128:36
 sized-fault-requires : tie.Need-sized-fault-requires
 sized-fault-requires c κs = search needs
 
--- src/lib.rt:120:1
 returns : tie.Need-returns
 returns c = search (fault-21, needs)
 
--- src/lib.rt:120:1
 returns-2 : tie.Need-returns-2
 returns-2 c = search needs
 

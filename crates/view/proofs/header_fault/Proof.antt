@@ -1,3 +1,4 @@
+-- Each way through the code takes the same branch of the definition; the places it reads lie inside by laws of Laws.
 use borrow.Author.Needs.{needs}
 use Rattle.view.proofs.Laws.{many-planes, odd-masking, odd-compression, no-width, no-height, no-planes, shown, no-body}
 use Rattle.view.proofs.header_fault.Statement.{statement}
@@ -5,35 +6,27 @@ use Rattle.view.proofs.header_fault.Tie as tie
 use Rattle.view.proofs.header_fault.Reads as reads
 use Rattle.view.proofs.header_fault.Lts as lts
 
--- src/lib.rt:79:9
 returns : tie.Need-returns
 returns c = search (many-planes, needs)
 
--- src/lib.rt:82:9
 returns-2 : tie.Need-returns-2
 returns-2 c = search (odd-masking, needs)
 
--- src/lib.rt:85:9
 returns-3 : tie.Need-returns-3
 returns-3 c = search (odd-compression, needs)
 
--- src/lib.rt:89:13
 returns-4 : tie.Need-returns-4
 returns-4 c = search (no-width, needs)
 
--- src/lib.rt:92:13
 returns-5 : tie.Need-returns-5
 returns-5 c = search (no-height, needs)
 
--- src/lib.rt:95:13
 returns-6 : tie.Need-returns-6
 returns-6 c = search (no-planes, needs)
 
--- src/lib.rt:75:1
 returns-7 : tie.Need-returns-7
 returns-7 c = search (shown, needs)
 
--- src/lib.rt:75:1
 returns-8 : tie.Need-returns-8
 returns-8 c = search (no-body, needs)
 

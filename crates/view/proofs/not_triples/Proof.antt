@@ -1,3 +1,4 @@
+-- Each way through the code takes the same branch of the definition; the places it reads lie inside by laws of Laws.
 use Rattle.view.proofs.Laws.{sized-order, triples-none, triples-some}
 use borrow.Author.Needs.{needs}
 use Rattle.view.proofs.not_triples.Statement.{statement}
@@ -5,23 +6,18 @@ use Rattle.view.proofs.not_triples.Tie as tie
 use Rattle.view.proofs.not_triples.Reads as reads
 use Rattle.view.proofs.not_triples.Lts as lts
 
--- src/lib.rt:40:26
 enum-told : tie.Need-enum-told
 enum-told c = search needs
 
--- src/lib.rt:41:23
 enum-known-part : tie.Need-enum-known-part
 enum-known-part c = search needs
 
--- src/lib.rt:41:37
 sub-result : tie.Need-sub-result
 sub-result c = search (sized-order, needs)
 
--- src/lib.rt:34:1
 returns : tie.Need-returns
 returns c = search (triples-none, needs)
 
--- src/lib.rt:34:1
 returns-2 : tie.Need-returns-2
 returns-2 c = search (triples-some, needs)
 

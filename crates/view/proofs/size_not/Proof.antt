@@ -1,3 +1,4 @@
+-- Each way through the code takes the same branch of the definition; the places it reads lie inside by laws of Laws.
 use Rattle.view.proofs.Laws.{sized-order, size-none, size-some}
 use borrow.Author.Needs.{needs}
 use Rattle.view.proofs.size_not.Statement.{statement}
@@ -5,23 +6,18 @@ use Rattle.view.proofs.size_not.Tie as tie
 use Rattle.view.proofs.size_not.Reads as reads
 use Rattle.view.proofs.size_not.Lts as lts
 
--- src/lib.rt:29:26
 enum-told : tie.Need-enum-told
 enum-told c = search needs
 
--- src/lib.rt:30:23
 enum-known-part : tie.Need-enum-known-part
 enum-known-part c = search needs
 
--- src/lib.rt:30:36
 sub-result : tie.Need-sub-result
 sub-result c = search (sized-order, needs)
 
--- src/lib.rt:23:1
 returns : tie.Need-returns
 returns c = search (size-none, needs)
 
--- src/lib.rt:23:1
 returns-2 : tie.Need-returns-2
 returns-2 c = search (size-some, needs)
 

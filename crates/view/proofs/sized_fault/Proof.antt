@@ -1,3 +1,4 @@
+-- Each way through the code takes the same branch of the definition; the places it reads lie inside by laws of ViewLaws.
 use Rattle.view.proofs.ViewLaws.{fault-22, fault-23, fault-24, part-order, part-inside, header-room}
 use borrow.Author.Needs.{needs}
 use Rattle.view.proofs.sized_fault.Statement.{statement}
@@ -8,39 +9,30 @@ use Rattle.fields.proofs.bitmap_header.Reads as bitmap-header-reads
 use Rattle.view.proofs.header_fault.Reads as header-fault-reads
 use Rattle.view.proofs.wrong_size.Reads as wrong-size-reads
 
--- src/lib.rt:110:9
 returns : tie.Need-returns
 returns c = search (fault-22, needs)
 
--- src/lib.rt:112:8
 wrong-size-requires : tie.Need-wrong-size-requires
 wrong-size-requires c κs = search needs
 
--- src/lib.rt:113:9
 returns-2 : tie.Need-returns-2
 returns-2 c = search (fault-23, needs)
 
--- src/lib.rt:115:32
 sub-bitmap-header : tie.Need-sub-bitmap-header
 sub-bitmap-header c = search (part-order, needs)
 
--- src/lib.rt:115:32
 part-bitmap-header-start : tie.Need-part-bitmap-header-start
 part-bitmap-header-start c = search (part-order, needs)
 
--- src/lib.rt:115:32
 part-bitmap-header-end : tie.Need-part-bitmap-header-end
 part-bitmap-header-end c = search (part-inside, needs)
 
--- src/lib.rt:115:9
 bitmap-header-requires : tie.Need-bitmap-header-requires
 bitmap-header-requires c κs = search (header-room, needs)
 
--- src/lib.rt:116:5
 header-fault-requires : tie.Need-header-fault-requires
 header-fault-requires c κs = search needs
 
--- src/lib.rt:105:1
 returns-3 : tie.Need-returns-3
 returns-3 c = search (fault-24, needs)
 

@@ -1,3 +1,4 @@
+-- Each way through the code takes the same branch of the definition; the places it reads lie inside by laws of ViewLaws.
 use Rattle.view.proofs.ViewLaws.{form-row, form-scoped, form-full, form-seen, form-unseen}
 use borrow.Author.Needs.{needs}
 use Rattle.view.proofs.view_form.Statement.{statement}
@@ -8,39 +9,30 @@ use Rattle.content.proofs.content_at.Reads as content-at-reads
 use Rattle.tree.proofs.size_at.Reads as size-at-reads
 use Rattle.view.proofs.fault.Reads as fault-reads
 
--- src/lib.rt:137:15
 add-end : tie.Need-add-end
 add-end c = search needs
 
--- src/lib.rt:137:37
 add-size-at : tie.Need-add-size-at
 add-size-at c = search needs
 
--- src/lib.rt:137:26
 size-at-requires : tie.Need-size-at-requires
 size-at-requires c κs = search needs
 
--- src/lib.rt:137:15
 add-end-2 : tie.Need-add-end-2
 add-end-2 c = search needs
 
--- src/lib.rt:138:27
 add-content-at : tie.Need-add-content-at
 add-content-at c = search needs
 
--- src/lib.rt:138:9
 content-at-requires : tie.Need-content-at-requires
 content-at-requires c κs = search (form-row, form-scoped, needs)
 
--- src/lib.rt:139:9
 fault-requires : tie.Need-fault-requires
 fault-requires c κs = search (form-full, needs)
 
--- src/lib.rt:141:9
 returns : tie.Need-returns
 returns c = search (form-seen, needs)
 
--- src/lib.rt:133:1
 returns-2 : tie.Need-returns-2
 returns-2 c = search (form-unseen, needs)
 

@@ -1,3 +1,4 @@
+-- Each way through the code takes the same branch of the definition; the places it reads lie inside by laws of ViewLaws.
 use mathlib.Core.Path.{sym, _∙_}
 use native.Mathlib.Omega.{arith}
 use Rattle.flat.specs.Coming.{accepted-sound}
@@ -10,27 +11,21 @@ use Rattle.view.proofs.view_picture.Lts as lts
 use Rattle.tree.proofs.check.Reads as check-reads
 use Rattle.view.proofs.view_sound.Reads as view-sound-reads
 
--- src/lib.rt:162:9
 check-requires : tie.Need-check-requires
 check-requires c κs = search needs
 
--- src/lib.rt:166:13
 enum-known-v : tie.Need-enum-known-v
 enum-known-v c = search needs
 
--- src/lib.rt:168:14
 view-sound-requires : tie.Need-view-sound-requires
 view-sound-requires c κs = accepted-sound _ (λ i. omega (arith, c .before .before .before .before .shared-slice-known .given i)) _ _ _ (sym (c .before .before .before .check .ensures) ∙ c .before .v .given .1)
 
--- src/lib.rt:169:28
 enum-known-v-2 : tie.Need-enum-known-v-2
 enum-known-v-2 c = search needs
 
--- src/lib.rt:159:1
 returns : tie.Need-returns
 returns c = search needs
 
--- src/lib.rt:159:1
 returns-2 : tie.Need-returns-2
 returns-2 c = search (view-refused, needs)
 

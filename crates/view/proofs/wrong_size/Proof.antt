@@ -1,3 +1,4 @@
+-- Each way through the code takes the same branch of the definition; the places it reads lie inside by laws of Laws.
 use borrow.Author.Needs.{needs}
 use Rattle.view.proofs.Laws.{sized-bmhd, sized-cmap, sized-grab, sized-dest, sized-sprt, sized-camg, wrong-bmhd, wrong-cmap, wrong-grab, wrong-dest, wrong-sprt, wrong-camg}
 use Rattle.view.proofs.wrong_size.Statement.{statement}
@@ -7,51 +8,39 @@ use Rattle.view.proofs.wrong_size.Lts as lts
 use Rattle.view.proofs.not_triples.Reads as not-triples-reads
 use Rattle.view.proofs.size_not.Reads as size-not-reads
 
--- src/lib.rt:56:8
 size-not-requires : tie.Need-size-not-requires
 size-not-requires c κs = search (sized-bmhd, needs)
 
--- src/lib.rt:57:9
 returns : tie.Need-returns
 returns c = search (wrong-bmhd, needs)
 
--- src/lib.rt:59:8
 not-triples-requires : tie.Need-not-triples-requires
 not-triples-requires c κs = search (sized-cmap, needs)
 
--- src/lib.rt:60:9
 returns-2 : tie.Need-returns-2
 returns-2 c = search (wrong-cmap, needs)
 
--- src/lib.rt:62:8
 size-not-requires-2 : tie.Need-size-not-requires-2
 size-not-requires-2 c κs = search (sized-grab, needs)
 
--- src/lib.rt:63:9
 returns-3 : tie.Need-returns-3
 returns-3 c = search (wrong-grab, needs)
 
--- src/lib.rt:65:8
 size-not-requires-3 : tie.Need-size-not-requires-3
 size-not-requires-3 c κs = search (sized-dest, needs)
 
--- src/lib.rt:66:9
 returns-4 : tie.Need-returns-4
 returns-4 c = search (wrong-dest, needs)
 
--- src/lib.rt:68:8
 size-not-requires-4 : tie.Need-size-not-requires-4
 size-not-requires-4 c κs = search (sized-sprt, needs)
 
--- src/lib.rt:69:9
 returns-5 : tie.Need-returns-5
 returns-5 c = search (wrong-sprt, needs)
 
--- src/lib.rt:71:5
 size-not-requires-5 : tie.Need-size-not-requires-5
 size-not-requires-5 c κs = search (sized-camg, needs)
 
--- src/lib.rt:46:1
 returns-6 : tie.Need-returns-6
 returns-6 c = search (wrong-camg, needs)
 
