@@ -1,4 +1,4 @@
--- Each way through the code takes the same branch of the definition; the places it reads lie inside by laws of Laws.
+-- Each way through the code takes the same branch of the definition; the places it reads lie inside by laws of Laws.antt.
 use borrow.Author.Needs.{needs}
 use Rattle.picture.proofs.Laws.{size-order, size-inside, size-room, size-room-0, long-none, long-some}
 use Rattle.picture.proofs.long_of.Statement.{statement}

@@ -1,4 +1,4 @@
--- Each way through the code takes the same branch of the definition; the places it reads lie inside by laws of Laws.
+-- Each way through the code takes the same branch of the definition; the places it reads lie inside by laws of Laws.antt.
 use borrow.Author.Needs.{needs}
 use Rattle.picture.proofs.Laws.{seen-judged, palette-seen, palette-unseen}
 use Rattle.picture.proofs.palette.Statement.{statement}

@@ -1,4 +1,4 @@
--- Each way through the code takes the same branch of the definition; the places it reads lie inside by laws of Laws.
+-- Each way through the code takes the same branch of the definition; the places it reads lie inside by laws of Laws.antt.
 use borrow.Author.Needs.{needs}
 use Rattle.picture.proofs.Laws.{palette-order, palette-inside, palette-default, palette-own}
 use Rattle.picture.proofs.palette_in.Statement.{statement}

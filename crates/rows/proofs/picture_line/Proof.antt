@@ -1,4 +1,4 @@
--- Each way through the code takes the same branch of the definition; the places it reads lie inside by laws of Laws.
+-- Each way through the code takes the same branch of the definition; the places it reads lie inside by laws of Laws.antt.
 use borrow.Author.Needs.{needs}
 use Rattle.rows.proofs.Laws.{line-25}
 use Rattle.rows.proofs.picture_line.Statement.{statement}

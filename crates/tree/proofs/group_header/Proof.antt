@@ -1,4 +1,4 @@
--- Each way through the code takes the same branch of the definition; the places it reads lie inside by laws of HeaderLaws.
+-- Each way through the code takes the same branch of the definition; the places it reads lie inside by laws of HeaderLaws.antt.
 use mathlib.Core.Path.{refl}
 use native.Mathlib.Omega.{arith}
 use Rattle.tree.proofs.HeaderLaws.{refuse-9, refuse-10, refuse-11, refuse-12, group-sound}

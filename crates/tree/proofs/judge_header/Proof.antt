@@ -1,4 +1,4 @@
--- Each way through the code takes the same branch of the definition; the places it reads lie inside by laws of HeaderLaws.
+-- Each way through the code takes the same branch of the definition; the places it reads lie inside by laws of HeaderLaws.antt.
 use Rattle.tree.proofs.HeaderLaws.{refuse-4, refuse-3, refuse-6, refuse-5, well-named, kind-at}
 use borrow.Author.Needs.{needs}
 use Rattle.tree.proofs.judge_header.Statement.{statement}

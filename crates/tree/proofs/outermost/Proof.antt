@@ -1,4 +1,4 @@
--- Each way through the code takes the same branch of the definition; the places it reads lie inside by laws of WalkLaws.
+-- Each way through the code takes the same branch of the definition; the places it reads lie inside by laws of WalkLaws.antt.
 use Rattle.tree.proofs.WalkLaws.{file-laws}
 use Rattle.tree.proofs.RepeatLaws.{way-laws}
 use borrow.Author.Needs.{needs}

@@ -1,4 +1,4 @@
--- Each way through the code takes the same branch of the definition; the places it reads lie inside by laws of Laws.
+-- Each way through the code takes the same branch of the definition; the places it reads lie inside by laws of Laws.antt.
 use Rattle.tree.proofs.Laws.{laws}
 use borrow.Author.Needs.{needs}
 use Rattle.tree.proofs.prop_at.Statement.{statement}

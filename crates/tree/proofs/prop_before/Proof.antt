@@ -1,4 +1,4 @@
--- The loop keeps what is still to come equal to the whole answer; one turn and the end are laws of Laws.
+-- The loop keeps what is still to come equal to the whole answer; one turn and the end are laws of Laws.antt.
 use Prim.Native.Nat.{ℕ, _-_}
 use mathlib.Core.Path.{refl}
 use native.Mathlib.Omega.{arith}

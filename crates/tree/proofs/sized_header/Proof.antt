@@ -1,4 +1,4 @@
--- Each way through the code takes the same branch of the definition; the places it reads lie inside by laws of HeaderLaws.
+-- Each way through the code takes the same branch of the definition; the places it reads lie inside by laws of HeaderLaws.antt.
 use Rattle.tree.proofs.HeaderLaws.{refuse-7, refuse-8, of-group, group-fits, of-leaf, leaf-fits}
 use borrow.Author.Needs.{needs}
 use Rattle.tree.proofs.sized_header.Statement.{statement}

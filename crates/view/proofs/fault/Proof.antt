@@ -1,4 +1,4 @@
--- Each way through the code takes the same branch of the definition; the places it reads lie inside by laws of ViewLaws.
+-- Each way through the code takes the same branch of the definition; the places it reads lie inside by laws of ViewLaws.antt.
 use Rattle.view.proofs.ViewLaws.{fault-21}
 use borrow.Author.Needs.{needs}
 use Rattle.view.proofs.fault.Statement.{statement}

@@ -1,4 +1,4 @@
--- Each way through the code takes the same branch of the definition; the places it reads lie inside by laws of Laws.
+-- Each way through the code takes the same branch of the definition; the places it reads lie inside by laws of Laws.antt.
 use Rattle.view.proofs.Laws.{sized-order, triples-none, triples-some}
 use borrow.Author.Needs.{needs}
 use Rattle.view.proofs.not_triples.Statement.{statement}
