@@ -8,10 +8,10 @@ use lib.ListN.{length, take, drop}
 use Rattle.name.specs.Name.{both, either, pick, kindOf}
 use Rattle.name.specs.declared.Kind.{Kind}
 use Rattle.name.specs.declared.Kind.the-variants.{FORM, LIST, CAT, PROP, FILLER, LOCAL}
-use Rattle.tree.specs.declared.Position.{Position}
-use Rattle.tree.specs.declared.Position.the-variants.{Outermost, InForm, InProp, InList, InCat}
-use Rattle.tree.specs.Chunks.{Chunks, none, leaf, group, Chunk, aLeaf, aGroup, before, bytes, putWord, word}
-use Rattle.tree.specs.Rules.{inside, after, groupType}
+use Rattle.chunk.specs.declared.Position.{Position}
+use Rattle.chunk.specs.declared.Position.the-variants.{Outermost, InForm, InProp, InList, InCat}
+use Rattle.chunk.specs.Chunks.{Chunks, none, leaf, group, Chunk, aLeaf, aGroup, before, bytes, putWord, word}
+use Rattle.chunk.specs.Rules.{inside, after, groupType}
 use Rattle.grammar.specs.Grammar.{chunkName, member, seenAfter, Members, height}
 use Rattle.ilbm.specs.Contents.{ILBM, BMHD, CMAP, GRAB, DEST, SPRT, CAMG, BODY}
 

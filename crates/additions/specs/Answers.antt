@@ -11,7 +11,7 @@ use lib.Dec.{eqb}
 use lib.ListN.{length}
 use borrow.Author.Tests.{le-leb, lt-leb, not-true}
 use Rattle.name.specs.Name.{both, pick}
-use Rattle.tree.specs.Chunks.{Chunks, none, leaf, group, Chunk, aLeaf, aGroup, bytes}
+use Rattle.chunk.specs.Chunks.{Chunks, none, leaf, group, Chunk, aLeaf, aGroup, bytes}
 use Rattle.grammar.specs.Names.{both-true}
 use Rattle.grammar.specs.Read.{length-leaf, length-group}
 use Rattle.ilbm.specs.Contents.{FORM, LIST, PROP, ILBM, BMHD, CMAP, GRAB, DEST, SPRT, CAMG, lastOwn, lastShared, bodiesIn}

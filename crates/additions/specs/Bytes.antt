@@ -6,8 +6,8 @@ use mathlib.Core.List.{List, [], _++_, append-assoc}
 use native.Mathlib.Omega.{arith}
 use lib.ListN.{length, take, drop, length-append}
 use lib.Seq.{take-at, drop-at, take-append-add, drop-append-add}
-use Rattle.tree.specs.declared.Position.{Position}
-use Rattle.tree.specs.Chunks.{Chunks, none, leaf, group, Chunk, aLeaf, aGroup, before, bytes, putWord, word}
+use Rattle.chunk.specs.declared.Position.{Position}
+use Rattle.chunk.specs.Chunks.{Chunks, none, leaf, group, Chunk, aLeaf, aGroup, before, bytes, putWord, word}
 use Rattle.grammar.specs.Words.{word-at}
 use Rattle.grammar.specs.Read.{length-leaf, length-group}
 use Rattle.additions.specs.Additions.{Boundary, here, past, into, May, insert, placeOf, around, grow, growAll, splice, bytesOf}

@@ -6,7 +6,7 @@ use mathlib.Core.Bool.{Bool, true, false}
 use mathlib.Core.List.{List, [], _∷_}
 use lib.Dec.{eqb}
 use Rattle.name.specs.Name.{pick}
-use Rattle.tree.specs.Chunks.{Chunk}
+use Rattle.chunk.specs.Chunks.{Chunk}
 use Rattle.tree.specs.Judge.{Found, found, readFile}
 use Rattle.ilbm.specs.declared.BitmapHeader.{BitmapHeader}
 use Rattle.ilbm.specs.Contents.{Property, own, shared, absent, Content, contentsOf}

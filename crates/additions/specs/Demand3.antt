@@ -5,7 +5,7 @@ use mathlib.Core.Bool.{true}
 use mathlib.Core.List.{List, _∷_}
 use native.Mathlib.Omega.{arith}
 use lib.ListN.{length, length-append}
-use Rattle.tree.specs.Chunks.{none, group, Chunk, aLeaf, aGroup, bytes}
+use Rattle.chunk.specs.Chunks.{none, group, Chunk, aLeaf, aGroup, bytes}
 use Rattle.grammar.specs.Grammar.{member, ChunkFile}
 use Rattle.grammar.specs.Read.{length-group}
 use Rattle.grammar.specs.Accept.{complete, sound}

@@ -7,8 +7,8 @@ use native.Mathlib.Omega.{arith}
 use lib.Dec.{ltb}
 use borrow.Author.Tests.{ltb-true}
 use Rattle.name.specs.Name.{both, wellFormed, versionName, typeName, typeBytes, reservedName, kindOf}
-use Rattle.tree.specs.Chunks.{none, leaf, group, Chunk, aLeaf, aGroup, bytes, putWord, word}
-use Rattle.tree.specs.Rules.{propWithin}
+use Rattle.chunk.specs.Chunks.{none, leaf, group, Chunk, aLeaf, aGroup, bytes, putWord, word}
+use Rattle.chunk.specs.Rules.{propWithin}
 use Rattle.tree.specs.Judge.{found, readFile, headerOf, groupHeaderOf, run, chunkAt}
 use Rattle.grammar.specs.Words.{Bytes}
 use Rattle.grammar.specs.Names.{both-true}

@@ -6,8 +6,8 @@ use native.Mathlib.Omega.{arith}
 use lib.ListN.{length, take, drop, length-append}
 use lib.Seq.{take-append-add, drop-append-add}
 use Rattle.name.specs.Name.{kindOf}
-use Rattle.tree.specs.declared.Position.the-variants.{Outermost}
-use Rattle.tree.specs.Chunks.{Chunks, none, group, Chunk, aLeaf, aGroup, before, bytes}
+use Rattle.chunk.specs.declared.Position.the-variants.{Outermost}
+use Rattle.chunk.specs.Chunks.{Chunks, none, group, Chunk, aLeaf, aGroup, before, bytes}
 use Rattle.grammar.specs.Grammar.{height, ChunkFile}
 use Rattle.grammar.specs.Names.{section-group}
 use Rattle.additions.specs.Additions.{Boundary, into, Addition, chunk, trailing, insert, placeOf, around, growAll, splice, bytesOf}

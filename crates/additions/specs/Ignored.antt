@@ -10,10 +10,10 @@ use borrow.Author.Tests.{eqb-true, not-true}
 use Rattle.name.specs.Name.{either, pick, kindOf}
 use Rattle.name.specs.declared.Kind.{Kind}
 use Rattle.name.specs.declared.Kind.the-variants.{FORM, LIST, CAT, PROP, FILLER, LOCAL}
-use Rattle.tree.specs.declared.Position.{Position}
-use Rattle.tree.specs.declared.Position.the-variants.{Outermost, InForm, InProp, InList, InCat}
-use Rattle.tree.specs.Chunks.{Chunks, none, leaf, group, Chunk, aLeaf, aGroup}
-use Rattle.tree.specs.Rules.{isGroup, inProp, inside}
+use Rattle.chunk.specs.declared.Position.{Position}
+use Rattle.chunk.specs.declared.Position.the-variants.{Outermost, InForm, InProp, InList, InCat}
+use Rattle.chunk.specs.Chunks.{Chunks, none, leaf, group, Chunk, aLeaf, aGroup}
+use Rattle.chunk.specs.Rules.{isGroup, inProp, inside}
 use Rattle.grammar.specs.Grammar.{Members}
 use Rattle.ilbm.specs.Contents.{ILBM, BMHD, CMAP, GRAB, DEST, SPRT, CAMG, BODY, lastOwn, lastShared, bodiesIn}
 use Rattle.additions.specs.Additions.{foreign, noPicture, LocalMay, LeafMay, GroupMay, PropMay, Boundary, here, past, into, May, insert}

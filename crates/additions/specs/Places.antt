@@ -9,7 +9,7 @@ use lib.Dec.{eqb}
 use lib.ListN.{length}
 use borrow.Author.Tests.{eq-eqb, eqb-true}
 use Rattle.name.specs.Name.{either}
-use Rattle.tree.specs.Chunks.{Chunks, none, leaf, group, Chunk, aLeaf, aGroup, before, bytes}
+use Rattle.chunk.specs.Chunks.{Chunks, none, leaf, group, Chunk, aLeaf, aGroup, before, bytes}
 use Rattle.grammar.specs.Grammar.{member, ChunkFile}
 use Rattle.grammar.specs.Read.{length-leaf, length-group}
 use Rattle.additions.specs.Additions.{Boundary, here, past, into, Addition, chunk, trailing, insert, placeOf, bytesOf, topMembers, added, addedAt}

@@ -10,11 +10,11 @@ use lib.Seq.{slice}
 use borrow.Author.Tests.{lt-ltb, le-ltb, not-true}
 use Rattle.name.specs.Name.{versionName, kindOf}
 use Rattle.name.specs.declared.Kind.{Kind}
-use Rattle.tree.specs.declared.Position.{Position}
-use Rattle.tree.specs.declared.Position.the-variants.{Outermost}
+use Rattle.chunk.specs.declared.Position.{Position}
+use Rattle.chunk.specs.declared.Position.the-variants.{Outermost}
 use Rattle.tree.specs.declared.Header.the-variants.{Bad, Leaf, Group}
-use Rattle.tree.specs.Chunks.{Chunks, none, leaf, group, Chunk, aLeaf, aGroup, bytes, word, nextAt}
-use Rattle.tree.specs.Rules.{inside, after, secondProp}
+use Rattle.chunk.specs.Chunks.{Chunks, none, leaf, group, Chunk, aLeaf, aGroup, bytes, word, nextAt}
+use Rattle.chunk.specs.Rules.{inside, after, secondProp}
 use Rattle.tree.specs.Judge.{Found, found, refused, headerOf, run, chunkAt, readFile, verdictOf}
 use Rattle.grammar.specs.Grammar.{seenAfter, Members, height, ChunkFile}
 use Rattle.grammar.specs.Words.{drop-slice, slice-at}

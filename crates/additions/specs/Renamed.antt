@@ -10,7 +10,7 @@ use lib.ListN.{length, getD, take, drop, length-append, length-drop}
 use lib.Seq.{length-take-le, take-append-le, take-take, drop-at, getD-take}
 use borrow.Author.Tests.{leb-true, leb-false, le-leb, eqb-true, eqb-false}
 use Rattle.name.specs.Name.{both, either, pick, wellFormed, versionName}
-use Rattle.tree.specs.Chunks.{Chunks, putWord, word}
+use Rattle.chunk.specs.Chunks.{Chunks, putWord, word}
 use Rattle.grammar.specs.Grammar.{member}
 use Rattle.grammar.specs.Words.{word-at}
 use Rattle.grammar.specs.Names.{both-true, well-formed-word}

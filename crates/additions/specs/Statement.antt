@@ -4,7 +4,7 @@ use mathlib.Core.Path.{_≡_}
 use mathlib.Core.Bool.{true}
 use mathlib.Core.List.{List, [], _∷_}
 use Rattle.name.specs.Name.{versionName}
-use Rattle.tree.specs.Chunks.{Chunk}
+use Rattle.chunk.specs.Chunks.{Chunk}
 use Rattle.tree.specs.declared.Verdict.the-variants.{Refused}
 use Rattle.tree.specs.Judge.{found, readFile, checkOf}
 use Rattle.grammar.specs.Words.{Bytes}

@@ -10,8 +10,8 @@ use mir.Syntax.{w64}
 use mir.Val.{Fits}
 use native.Mathlib.Omega.{arith}
 use Rattle.name.specs.Name.{pick, kindOf}
-use Rattle.tree.specs.Chunks.{Chunks, none, leaf, group, bytes, putWord, word}
-use Rattle.tree.specs.Rules.{isGroup}
+use Rattle.chunk.specs.Chunks.{Chunks, none, leaf, group, bytes, putWord, word}
+use Rattle.chunk.specs.Rules.{isGroup}
 use Rattle.grammar.specs.Read.{Regular}
 use Rattle.ilbm.specs.declared.Origin.{Origin}
 use Rattle.ilbm.specs.declared.Origin.the-variants.{Own, Shared, Absent}

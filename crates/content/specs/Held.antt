@@ -4,7 +4,7 @@ use mathlib.Core.Path.{_≡_}
 use mathlib.Core.List.{List}
 use mathlib.Core.Option.{some}
 use lib.ListN.{length}
-use Rattle.tree.specs.Chunks.{Chunks}
+use Rattle.chunk.specs.Chunks.{Chunks}
 use Rattle.ilbm.specs.declared.Origin.{Origin}
 use Rattle.ilbm.specs.declared.Origin.the-variants.{Own, Shared, Absent}
 use Rattle.ilbm.specs.Contents.{SharedProp, Property, own, shared, absent, sharedBy, propertyOf, Content, contentOf}

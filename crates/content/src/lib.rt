@@ -1,4 +1,5 @@
 // The content of the picture in a FORM: each property that counts, with its origin, and the BODYs, as parts of the file.
+use chunk::size_at;
 use ilbm::Origin;
 use members::Part;
 use members::count_bodies;
@@ -6,11 +7,10 @@ use members::first_body;
 use members::last_named;
 use members::until_body;
 use name::Name;
-use tree::size_at;
 ghost use mathlib.Core.Path.{_≡_};
 ghost use mathlib.Core.Bool.{false};
 ghost use Rattle.name.specs.Name.{kindOf};
-ghost use Rattle.tree.specs.Rules.{isGroup};
+ghost use Rattle.chunk.specs.Rules.{isGroup};
 ghost use Rattle.members.specs.Members.{Row, StopsAtBody};
 ghost use Rattle.locate.specs.Spots.{Scoped};
 ghost use Rattle.content.specs.Held.{SharedIs, PropertyIs, ContentIs};

@@ -8,7 +8,7 @@ use lib.ListN.{length, set, replicate, length-append, length-replicate}
 use lib.Seq.{set-at}
 use borrow.Author.Tests.{eq-eqb, ne-eqb}
 use Rattle.name.specs.Name.{pick}
-use Rattle.tree.specs.Chunks.{Chunks, none, leaf, group, putWord, bytes}
+use Rattle.chunk.specs.Chunks.{Chunks, none, leaf, group, putWord, bytes}
 use Rattle.grammar.specs.Read.{length-leaf, length-group}
 use Rattle.flat.specs.Order.{join, join-bytes}
 use Rattle.copy.specs.Clean.{zeroPads}

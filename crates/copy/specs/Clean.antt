@@ -4,7 +4,7 @@ use mathlib.Core.List.{List, [], _∷_, _++_}
 use lib.Dec.{ltb}
 use lib.ListN.{length, drop, replicate}
 use Rattle.name.specs.Name.{pick}
-use Rattle.tree.specs.Chunks.{Chunks, none, leaf, group, Chunk, before, bytes}
+use Rattle.chunk.specs.Chunks.{Chunks, none, leaf, group, Chunk, before, bytes}
 use Rattle.tree.specs.Judge.{Found, found, refused, readFile}
 use Rattle.copy.specs.declared.Copied.{Copied}
 use Rattle.copy.specs.declared.Copied.the-variants.{Written, Refused}

@@ -33,10 +33,10 @@ fn zero_pad(s: &[u8], p: usize, out: &mut [u8]) -> usize
     ensures next { λ r. ⌜ r ≡ following (now (s .entry)) p ⌝ }
     ensures zeroed { λ _. ⌜ now (out .exit) ≡ padZeroed (now (s .entry)) p (now (out .entry)) ⌝ }
 {
-    if tree::is_group(tree::name_at(s, p).kind()) {
+    if chunk::is_group(chunk::name_at(s, p).kind()) {
         return p + 12;
     }
-    let z = tree::size_at(s, p + 4);
+    let z = chunk::size_at(s, p + 4);
     if z % 2 == 0 {
         return p + 8 + z;
     }

@@ -5,7 +5,7 @@ use mathlib.Core.List.{List}
 use lib.Dec.{eqb}
 use lib.ListN.{length}
 use Rattle.name.specs.Name.{both, pick}
-use Rattle.tree.specs.Chunks.{Chunks, Chunk, word}
+use Rattle.chunk.specs.Chunks.{Chunks, Chunk, word}
 use Rattle.flat.specs.Coming.{Coming}
 use Rattle.tree.specs.Judge.{Found, found, refused, readFile}
 use Rattle.ilbm.specs.Contents.{FORM, ILBM, contentsOf}

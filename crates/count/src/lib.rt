@@ -1,10 +1,10 @@
 // Counts the pictures of a file, by one pass over its chunks in file order.
+use chunk::is_group;
+use chunk::name_at;
+use chunk::size_at;
 use name::Name;
 use tree::Verdict;
 use tree::check;
-use tree::is_group;
-use tree::name_at;
-use tree::size_at;
 ghost use mathlib.Core.Path.{_≡_};
 ghost use Prim.Native.Nat.{ℕ, _+_, _≤_, _<_};
 ghost use Rattle.flat.specs.Order.{following};

@@ -5,8 +5,8 @@ use mathlib.Core.List.{List, [], _∷_}
 use lib.IntN.{pos}
 use lib.ListN.{length}
 use Rattle.name.specs.Name.{wellFormed, versionName, kindOf, typeBytes, reservedName, typeName}
-use Rattle.tree.specs.Chunks.{word, count, bytes}
-use Rattle.tree.specs.Rules.{propWithin}
+use Rattle.chunk.specs.Chunks.{word, count, bytes}
+use Rattle.chunk.specs.Rules.{propWithin}
 use Rattle.tree.specs.Judge.{groupHeaderOf, headerOf, run, chunkAt, readFile, checkOf}
 use Rattle.tree.specs.declared.Verdict.the-variants.{Accepted, Refused}
 use Rattle.byterun.specs.ByteRun.{filled, over, short, codeOf, unpackBy, unpackRow, plainRow}

@@ -8,14 +8,14 @@ use lib.ListN.{length}
 use native.Mathlib.Omega.{arith}
 use Rattle.name.specs.Name.{pick, wellFormed, versionName, kindOf}
 use Rattle.name.specs.declared.Kind.{Kind}
-use Rattle.tree.specs.declared.Position.{Position}
-use Rattle.tree.specs.declared.Position.the-variants.{Outermost}
+use Rattle.chunk.specs.declared.Position.{Position}
+use Rattle.chunk.specs.declared.Position.the-variants.{Outermost}
 use Rattle.tree.specs.declared.Header.{Header}
 use Rattle.tree.specs.declared.Header.the-variants.{Bad, Leaf, Group}
 use Rattle.tree.specs.declared.Verdict.{Verdict}
 use Rattle.tree.specs.declared.Verdict.the-variants.{Accepted, Refused}
-use Rattle.tree.specs.Chunks.{Chunks, none, Chunk, before, word, nextAt, aLeaf, aGroup}
-use Rattle.tree.specs.Rules.{isGroup, isSection, misplaced, inside, after, groupType, secondProp}
+use Rattle.chunk.specs.Chunks.{Chunks, none, Chunk, before, word, nextAt, aLeaf, aGroup}
+use Rattle.chunk.specs.Rules.{isGroup, isSection, misplaced, inside, after, groupType, secondProp}
 use Rattle.tree.specs.Judge.{groupHeaderOf, sizedHeaderOf, headerOf, Found, found, refused, andThen, run, byHeader, chunkAt, readFile, verdictOf, checkOf}
 
 -- one of 1 to 12

@@ -5,8 +5,8 @@ use mathlib.Core.List.{List, _++_, append-assoc}
 use native.Mathlib.Omega.{arith}
 use lib.ListN.{length, length-append}
 use Rattle.name.specs.Name.{pick, kindOf}
-use Rattle.tree.specs.Chunks.{Chunks, none, leaf, group, putWord, bytes, count, word, nextAt}
-use Rattle.tree.specs.Rules.{isGroup}
+use Rattle.chunk.specs.Chunks.{Chunks, none, leaf, group, putWord, bytes, count, word, nextAt}
+use Rattle.chunk.specs.Rules.{isGroup}
 use Rattle.grammar.specs.Read.{Regular, length-leaf, length-group}
 
 -- chunks in a row, and then others

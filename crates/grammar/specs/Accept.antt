@@ -5,7 +5,7 @@ use mathlib.Core.List.{List}
 use mathlib.Core.Logic.{_↔_}
 use lib.ListN.{length}
 use Rattle.tree.specs.declared.Verdict.the-variants.{Accepted}
-use Rattle.tree.specs.Chunks.{none, Chunk, before, bytes, count, nextAt}
+use Rattle.chunk.specs.Chunks.{none, Chunk, before, bytes, count, nextAt}
 use Rattle.tree.specs.Judge.{found, readFile, checkOf}
 use Rattle.grammar.specs.Grammar.{ChunkFile}
 use Rattle.grammar.specs.Words.{Bytes}

@@ -10,10 +10,10 @@ use lib.Seq.{slice}
 use borrow.Author.Tests.{lt-ltb, le-ltb, not-true}
 use Rattle.name.specs.Name.{kindOf}
 use Rattle.name.specs.declared.Kind.{Kind}
-use Rattle.tree.specs.declared.Position.{Position}
+use Rattle.chunk.specs.declared.Position.{Position}
 use Rattle.tree.specs.declared.Header.the-variants.{Leaf, Group}
-use Rattle.tree.specs.Chunks.{Chunks, none, leaf, group, Chunk, aLeaf, aGroup, before, bytes, word, nextAt}
-use Rattle.tree.specs.Rules.{inside, after, groupType, secondProp}
+use Rattle.chunk.specs.Chunks.{Chunks, none, leaf, group, Chunk, aLeaf, aGroup, before, bytes, word, nextAt}
+use Rattle.chunk.specs.Rules.{inside, after, groupType, secondProp}
 use Rattle.tree.specs.Judge.{Found, found, headerOf, run, chunkAt, membersOf}
 use Rattle.grammar.specs.Grammar.{chunkName, seenAfter, Members, height}
 use Rattle.grammar.specs.Read.{length-leaf, length-group, leaf-name, leaf-size, leaf-data, leaf-pad, leaf-next, leaf-rest}

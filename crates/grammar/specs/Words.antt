@@ -6,7 +6,7 @@ use native.Mathlib.Nat.{add-zero, zero-add, suc-add}
 use native.Mathlib.Omega.{arith}
 use lib.ListN.{length, getD, take, drop, length-append, length-drop, take-append-drop}
 use lib.Seq.{getD-drop, drop-drop, drop-at, take-at, slice, slice-cons, take-add, take-nil}
-use Rattle.tree.specs.Chunks.{putWord, word}
+use Rattle.chunk.specs.Chunks.{putWord, word}
 
 -- bytes, as a slice of u8 has them
 abbrev pub Bytes : List ℕ → Type 0

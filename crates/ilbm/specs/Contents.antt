@@ -6,7 +6,7 @@ use mathlib.Core.Option.{Option, some, none as nothing}
 use lib.Dec.{eqb}
 use lib.ListN.{length}
 use Rattle.name.specs.Name.{both, pick}
-use Rattle.tree.specs.Chunks.{Chunks, none, leaf, group, Chunk, before, bytes}
+use Rattle.chunk.specs.Chunks.{Chunks, none, leaf, group, Chunk, before, bytes}
 
 -- the names that matter in a picture
 abbrev pub FORM : ℕ

@@ -6,7 +6,7 @@ use lib.Dec.{ltb, eqb}
 use lib.IntN.{ℤ, pos, negsuc}
 use lib.ListN.{length, getD}
 use Rattle.name.specs.Name.{both, either, pick}
-use Rattle.tree.specs.Chunks.{Chunk}
+use Rattle.chunk.specs.Chunks.{Chunk}
 use Rattle.tree.specs.Judge.{Found, found, refused, readFile}
 use Rattle.ilbm.specs.declared.Origin.{Origin}
 use Rattle.ilbm.specs.declared.Origin.the-variants.{Own, Shared, Absent}

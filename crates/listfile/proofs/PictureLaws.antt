@@ -6,7 +6,7 @@ use mathlib.Core.List.{List, [], _∷_}
 use native.Mathlib.Omega.{arith}
 use native.Mathlib.Numerals.{add-one}
 use lib.ListN.{length, drop}
-use Rattle.tree.specs.Chunks.{Chunk, before, none, count}
+use Rattle.chunk.specs.Chunks.{Chunk, before, none, count}
 use Rattle.tree.specs.Judge.{Found, found, refused, readFile}
 use Rattle.listing.specs.declared.Record.{Record}
 use Rattle.listing.specs.declared.Cursor.{Cursor}

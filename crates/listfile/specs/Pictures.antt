@@ -5,7 +5,7 @@ use mathlib.Core.List.{List, [], _∷_}
 use lib.Dec.{eqb}
 use Rattle.name.specs.declared.Kind.{Kind}
 use Rattle.name.specs.declared.Kind.the-variants.{FORM, LIST, CAT, PROP, FILLER, LOCAL}
-use Rattle.tree.specs.Chunks.{Chunk}
+use Rattle.chunk.specs.Chunks.{Chunk}
 use Rattle.tree.specs.Judge.{Found, found, refused, readFile}
 use Rattle.listing.specs.declared.Record.{Record}
 use Rattle.listing.specs.Records.{recordsOf}

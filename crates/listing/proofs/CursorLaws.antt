@@ -9,8 +9,8 @@ use borrow.Author.Tests.{eq-eqb, ne-eqb}
 use Rattle.name.specs.Name.{kindOf}
 use Rattle.name.specs.declared.Kind.{Kind}
 use Rattle.name.specs.declared.Name.{Name}
-use Rattle.tree.specs.Chunks.{word}
-use Rattle.tree.specs.Rules.{isGroup}
+use Rattle.chunk.specs.Chunks.{word}
+use Rattle.chunk.specs.Rules.{isGroup}
 use Rattle.listing.specs.declared.Cursor.{Cursor}
 use Rattle.listing.specs.declared.Listed.the-variants.{Chunk as Listed-chunk}
 use Rattle.listing.specs.Records.{recordOf}

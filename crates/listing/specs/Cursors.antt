@@ -5,8 +5,8 @@ use mathlib.Core.List.{List, [], _∷_, _++_}
 use lib.Dec.{eqb}
 use lib.ListN.{length, getD, set, drop, replicate}
 use Rattle.name.specs.Name.{pick, kindOf}
-use Rattle.tree.specs.Chunks.{Chunks, none, leaf, group, Chunk, before, bytes, count, word}
-use Rattle.tree.specs.Rules.{isGroup}
+use Rattle.chunk.specs.Chunks.{Chunks, none, leaf, group, Chunk, before, bytes, count, word}
+use Rattle.chunk.specs.Rules.{isGroup}
 use Rattle.tree.specs.Judge.{Found, found, refused, readFile}
 use Rattle.grammar.specs.Grammar.{height}
 use Rattle.grammar.specs.Read.{Regular}

@@ -6,8 +6,8 @@ use mathlib.Core.List.{List, [], _∷_, _++_}
 use native.Mathlib.Omega.{arith}
 use lib.ListN.{length, drop}
 use lib.Seq.{slice}
-use Rattle.tree.specs.Chunks.{Chunks, none, leaf, group, Chunk, before, bytes, count}
-use Rattle.tree.specs.Rules.{isGroup}
+use Rattle.chunk.specs.Chunks.{Chunks, none, leaf, group, Chunk, before, bytes, count}
+use Rattle.chunk.specs.Rules.{isGroup}
 use Rattle.tree.specs.Judge.{Found, found, refused, readFile}
 use Rattle.grammar.specs.Words.{Bytes}
 use Rattle.grammar.specs.Read.{Regular, leaf-fits, leaf-data, leaf-next, leaf-rest, group-fits, group-members, group-next, group-rest}

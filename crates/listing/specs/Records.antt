@@ -3,7 +3,7 @@ use Prim.Native.Nat.{ℕ, zero, suc, _+_}
 use mathlib.Core.List.{List, [], _∷_, _++_}
 use lib.ListN.{length}
 use Rattle.name.specs.Name.{kindOf}
-use Rattle.tree.specs.Chunks.{Chunks, none, leaf, group, Chunk, before, bytes, count}
+use Rattle.chunk.specs.Chunks.{Chunks, none, leaf, group, Chunk, before, bytes, count}
 use Rattle.tree.specs.Judge.{Found, found, refused, readFile}
 use Rattle.listing.specs.declared.Record.{Record}
 use Rattle.listing.specs.declared.Listed.{Listed}

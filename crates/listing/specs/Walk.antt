@@ -6,8 +6,8 @@ use mathlib.Core.List.{List, [], _∷_, _++_, append-nil}
 use native.Mathlib.Omega.{arith}
 use lib.ListN.{length, drop, length-drop, replicate}
 use Rattle.name.specs.Name.{kindOf}
-use Rattle.tree.specs.Chunks.{Chunks, none, leaf, group, Chunk, aLeaf, aGroup, before, bytes, count, word}
-use Rattle.tree.specs.Rules.{isGroup}
+use Rattle.chunk.specs.Chunks.{Chunks, none, leaf, group, Chunk, aLeaf, aGroup, before, bytes, count, word}
+use Rattle.chunk.specs.Rules.{isGroup}
 use Rattle.tree.specs.Judge.{Found, found, refused, readFile, verdictOf, checkOf}
 use Rattle.tree.specs.declared.Verdict.the-variants.{Accepted, Refused as Verdict-refused}
 use Rattle.grammar.specs.Grammar.{ChunkFile}

@@ -71,15 +71,15 @@ pub fn record_at(s: &[u8], cur: Cursor) -> Record
     ensures { λ r. ⌜ Listed.Chunk r ≡ recordOf (now (s .entry)) (cur .number) ⌝ }
 {
     let p = cur.place;
-    let n = tree::name_at(s, p);
-    let size = tree::size_at(s, p + 4);
+    let n = chunk::name_at(s, p);
+    let size = chunk::size_at(s, p + 4);
     let kind = n.kind();
-    if tree::is_group(kind) {
+    if chunk::is_group(kind) {
         return Record {
             number: cur.number,
             level: cur.level,
             kind,
-            name: tree::name_at(s, p + 8),
+            name: chunk::name_at(s, p + 8),
             place: p,
             size,
         };
@@ -135,9 +135,9 @@ pub fn advance(s: &[u8], cur: Cursor) -> Cursor
     ensures { λ r. ⌜ (Located (now (s .entry)) r) × (r .number ≡ cur .number + 1) ⌝ }
 {
     let p = cur.place;
-    let n = tree::name_at(s, p);
-    let z = tree::size_at(s, p + 4);
-    if tree::is_group(n.kind()) {
+    let n = chunk::name_at(s, p);
+    let z = chunk::size_at(s, p + 4);
+    if chunk::is_group(n.kind()) {
         return enter(cur, z);
     }
     pass(cur, z)
@@ -184,7 +184,7 @@ fn extent_in(r: Record) -> Extent
     ensures { λ x. ⌜ x ≡ extentIn (Listed.Chunk r) ⌝ }
 {
     let kind = r.kind;
-    if tree::is_group(kind) {
+    if chunk::is_group(kind) {
         return Extent::Refused {
             number: 15,
             place: 0,

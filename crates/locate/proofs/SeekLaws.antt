@@ -9,8 +9,8 @@ use native.Mathlib.Omega.{arith}
 use native.Mathlib.Numerals.{sub-one}
 use Rattle.name.specs.Name.{both, pick, kindOf}
 use Rattle.name.specs.declared.Kind.{Kind}
-use Rattle.tree.specs.Chunks.{Chunks, none, leaf, group, bytes, word}
-use Rattle.tree.specs.Rules.{isGroup}
+use Rattle.chunk.specs.Chunks.{Chunks, none, leaf, group, bytes, word}
+use Rattle.chunk.specs.Rules.{isGroup}
 use Rattle.grammar.specs.Read.{length-leaf, length-group}
 use Rattle.ilbm.specs.Contents.{FORM, ILBM, SharedProp, scopeInside, Content, contentOf, contentsFrom}
 use Rattle.members.specs.declared.Sibling.{Sibling}

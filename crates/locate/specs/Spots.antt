@@ -6,8 +6,8 @@ use mathlib.Core.List.{List, [], _∷_, _++_}
 use lib.Dec.{eqb}
 use lib.ListN.{length, drop}
 use Rattle.name.specs.Name.{both, pick, kindOf}
-use Rattle.tree.specs.Rules.{isGroup}
-use Rattle.tree.specs.Chunks.{Chunks, none, leaf, group, bytes, word}
+use Rattle.chunk.specs.Rules.{isGroup}
+use Rattle.chunk.specs.Chunks.{Chunks, none, leaf, group, bytes, word}
 use Rattle.ilbm.specs.Contents.{FORM, ILBM, SharedProp, propAmong, scopeInside, Content, contentOf, contentsFrom}
 use Rattle.members.specs.Members.{Holds, Row}
 use Rattle.locate.specs.declared.Spot.{Spot}

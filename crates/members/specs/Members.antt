@@ -8,8 +8,8 @@ use lib.Dec.{eqb}
 use lib.ListN.{length, drop}
 use lib.Seq.{slice}
 use Rattle.name.specs.Name.{pick, kindOf}
-use Rattle.tree.specs.Chunks.{Chunks, none, leaf, group, bytes}
-use Rattle.tree.specs.Rules.{isGroup}
+use Rattle.chunk.specs.Chunks.{Chunks, none, leaf, group, bytes}
+use Rattle.chunk.specs.Rules.{isGroup}
 use Rattle.grammar.specs.Read.{Regular}
 use Rattle.ilbm.specs.Contents.{BODY, lastOwn, lastShared, bodiesIn}
 use Rattle.members.specs.declared.Sibling.{Sibling}

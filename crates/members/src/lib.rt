@@ -1,13 +1,13 @@
 // What is looked up among the members of one group of a sound file, by loops over the places of the members.
+use chunk::name_at;
+use chunk::size_at;
 use name::Name;
-use tree::name_at;
-use tree::size_at;
 ghost use mathlib.Core.Path.{_≡_};
 ghost use mathlib.Core.Bool.{false};
 ghost use Prim.Native.Nat.{ℕ, _+_, _≤_, _<_};
 ghost use lib.Dec.{eqb};
 ghost use Rattle.name.specs.Name.{pick, kindOf};
-ghost use Rattle.tree.specs.Rules.{isGroup};
+ghost use Rattle.chunk.specs.Rules.{isGroup};
 ghost use Rattle.ilbm.specs.Contents.{BODY};
 ghost use Rattle.members.specs.Members.{Row, Tells, IsLast, CountsBodies, StopsAtBody, IsBody};
 ghost use Rattle.members.specs.declared.Part.the-variants.{Between};

@@ -10,7 +10,7 @@ use lib.Dec.{ltb}
 use lib.ListN.{length, getD}
 use borrow.Author.Tests.{lt-ltb, le-leb}
 use Rattle.name.specs.Name.{pick}
-use Rattle.tree.specs.Chunks.{Chunk, before, none, count}
+use Rattle.chunk.specs.Chunks.{Chunk, before, none, count}
 use Rattle.tree.specs.Judge.{Found, found, refused, readFile, verdictOf, checkOf}
 use Rattle.tree.specs.declared.Verdict.the-variants.{Refused as Verdict-refused}
 use Rattle.listing.specs.declared.Record.{Record}

@@ -9,7 +9,7 @@ use borrow.Author.Tests.{eq-eqb}
 use native.Mathlib.Nat.{mul-comm, zero-add}
 use native.Mathlib.Omega.{arith}
 use Rattle.tree.specs.declared.Verdict.the-variants.{Accepted}
-use Rattle.tree.specs.Chunks.{Chunk}
+use Rattle.chunk.specs.Chunks.{Chunk}
 use Rattle.tree.specs.Judge.{Found, found, readFile, checkOf}
 use Rattle.ilbm.specs.declared.BitmapHeader.{BitmapHeader}
 use Rattle.ilbm.specs.declared.PictureAnswer.the-variants.{Shown}

@@ -6,9 +6,9 @@ use mathlib.Core.List.{List, [], _∷_, _++_, append-nil}
 use lib.ListN.{length, length-replicate}
 use native.Mathlib.Omega.{arith}
 use Rattle.name.specs.Name.{wellFormed, versionName, typeBytes, reservedName, typeName, kindOf}
-use Rattle.tree.specs.declared.Position.the-variants.{Outermost, InForm}
+use Rattle.chunk.specs.declared.Position.the-variants.{Outermost, InForm}
 use Rattle.tree.specs.declared.Verdict.the-variants.{Accepted}
-use Rattle.tree.specs.Chunks.{Chunks, none, leaf, group, before, bytes, count}
+use Rattle.chunk.specs.Chunks.{Chunks, none, leaf, group, before, bytes, count}
 use Rattle.tree.specs.Judge.{found, readFile, checkOf}
 use Rattle.grammar.specs.Grammar.{Members, height, ChunkFile}
 use Rattle.grammar.specs.Accept.{complete, ends}

@@ -6,7 +6,7 @@ use native.Mathlib.Omega.{arith}
 use native.Mathlib.Numerals.{add-one}
 use lib.ListN.{length, take, set}
 use lib.Seq.{take-all}
-use Rattle.tree.specs.Chunks.{Chunk, before, none, count}
+use Rattle.chunk.specs.Chunks.{Chunk, before, none, count}
 use borrow.Author.Tests.{le-leb, lt-leb}
 use Rattle.tree.specs.Judge.{Found, found, refused, readFile, verdictOf, checkOf}
 use Rattle.tree.specs.declared.Verdict.{Verdict}

@@ -7,7 +7,7 @@ use lib.ListN.{length}
 use Rattle.name.specs.Name.{pick}
 use Rattle.name.specs.declared.Kind.{Kind}
 use Rattle.name.specs.declared.Kind.the-variants.{FORM, LIST, CAT, PROP, LOCAL, FILLER}
-use Rattle.tree.specs.Chunks.{Chunk, before, none, count}
+use Rattle.chunk.specs.Chunks.{Chunk, before, none, count}
 use Rattle.tree.specs.Judge.{Found, found, refused, readFile, checkOf}
 use Rattle.tree.specs.declared.Verdict.{Verdict}
 use Rattle.tree.specs.declared.Verdict.the-variants.{Accepted, Refused}

@@ -7,16 +7,12 @@ use borrow.Author.Tests.{lt-ltb, le-ltb, eq-eqb, ne-eqb}
 use native.Mathlib.Omega.{arith}
 use Rattle.name.specs.Name.{pick, wellFormed, versionName, kindOf}
 use Rattle.name.specs.declared.Kind.{Kind}
-use Rattle.name.specs.declared.Kind.the-variants.{PROP}
-use Rattle.tree.specs.declared.Position.{Position}
+use Rattle.chunk.specs.declared.Position.{Position}
 use Rattle.tree.specs.declared.Header.{Header}
 use Rattle.tree.specs.declared.Header.the-variants.{Bad, Leaf, Group}
-use Rattle.tree.specs.Chunks.{word}
-use Rattle.tree.specs.Rules.{isGroup, misplaced, groupType, propBefore, secondProp}
+use Rattle.chunk.specs.Chunks.{word}
+use Rattle.chunk.specs.Rules.{isGroup, misplaced, groupType, secondProp}
 use Rattle.tree.specs.Judge.{groupHeaderOf, sizedHeaderOf, headerOf, LeafFits, GroupFits, Fitting, Opened}
-
-pub second-prop : (k : Kind) (s : List ℕ) (from p t : ℕ) (b : Bool) → k ≡ PROP → b ≡ propBefore s from p t → b ≡ secondProp k s from p t
-second-prop k s from p t b i e = rw i e
 
 module _ (levels : ℕ) (s : List ℕ) (from : ℕ) (k : Kind) (z p : ℕ) where
   pub refuse-9 : levels ≡ 0 → Bad 9 ≡ groupHeaderOf levels s from k z p

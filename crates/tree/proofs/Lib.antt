@@ -1,4 +1,3 @@
-pub mod Laws
 pub mod HeaderLaws
 pub mod WalkLaws
-pub mod RepeatLaws
+pub mod WayLaws

@@ -12,8 +12,8 @@ use native.Mathlib.Numerals.{sub-one}
 use Rattle.name.specs.Name.{versionName, kindOf}
 use Rattle.name.specs.declared.Kind.{Kind}
 use Rattle.name.specs.declared.Kind.the-variants.{FORM, LIST, CAT, PROP, FILLER, LOCAL}
-use Rattle.tree.specs.declared.Position.{Position}
-use Rattle.tree.specs.declared.Position.the-variants.{Outermost, InForm, InProp, InList, InCat}
+use Rattle.chunk.specs.declared.Position.{Position}
+use Rattle.chunk.specs.declared.Position.the-variants.{Outermost, InForm, InProp, InList, InCat}
 use Rattle.tree.specs.declared.Header.{Header}
 use Rattle.tree.specs.declared.Header.the-variants.{Bad, Leaf, Group}
 use Rattle.tree.specs.declared.Step.{Step}
@@ -22,8 +22,8 @@ use Rattle.tree.specs.declared.Walked.{Walked}
 use Rattle.tree.specs.declared.Walked.the-variants.{Whole, Broken}
 use Rattle.tree.specs.declared.Verdict.{Verdict}
 use Rattle.tree.specs.declared.Verdict.the-variants.{Accepted, Refused}
-use Rattle.tree.specs.Chunks.{Chunks, none, Chunk, aLeaf, aGroup, before, count, word, nextAt}
-use Rattle.tree.specs.Rules.{isGroup, isSection, inside, after}
+use Rattle.chunk.specs.Chunks.{Chunks, none, Chunk, aLeaf, aGroup, before, count, word, nextAt}
+use Rattle.chunk.specs.Rules.{isGroup, isSection, inside, after}
 use Rattle.tree.specs.Judge.{headerOf, Found, found, refused, andThen, run, chunkAt, membersOf, groupOf, told, toldAll, readFile, verdictOf, checkOf}
 use Rattle.tree.specs.Judge.{LeafFits, GroupFits, Fitting, Ahead, Counted}
 

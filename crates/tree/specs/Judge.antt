@@ -8,8 +8,8 @@ use lib.ListN.{length}
 use lib.Seq.{slice}
 use Rattle.name.specs.Name.{pick, wellFormed, versionName, kindOf}
 use Rattle.name.specs.declared.Kind.{Kind}
-use Rattle.tree.specs.declared.Position.{Position}
-use Rattle.tree.specs.declared.Position.the-variants.{Outermost}
+use Rattle.chunk.specs.declared.Position.{Position}
+use Rattle.chunk.specs.declared.Position.the-variants.{Outermost}
 use Rattle.tree.specs.declared.Header.{Header}
 use Rattle.tree.specs.declared.Header.the-variants.{Bad, Leaf, Group}
 use Rattle.tree.specs.declared.Step.{Step}
@@ -18,8 +18,8 @@ use Rattle.tree.specs.declared.Walked.{Walked}
 use Rattle.tree.specs.declared.Walked.the-variants.{Whole, Broken}
 use Rattle.tree.specs.declared.Verdict.{Verdict}
 use Rattle.tree.specs.declared.Verdict.the-variants.{Accepted, Refused}
-use Rattle.tree.specs.Chunks.{Chunks, none, Chunk, aLeaf, aGroup, before, count, word, nextAt}
-use Rattle.tree.specs.Rules.{isGroup, isSection, misplaced, inside, after, groupType, secondProp}
+use Rattle.chunk.specs.Chunks.{Chunks, none, Chunk, aLeaf, aGroup, before, count, word, nextAt}
+use Rattle.chunk.specs.Rules.{isGroup, isSection, misplaced, inside, after, groupType, secondProp}
 
 -- What 9 to 12 say of a group of kind k and size z at p; `levels` is how many levels of groups may still be opened.
 unfoldable pub groupHeaderOf : ℕ → List ℕ → ℕ → Kind → ℕ → ℕ → Header

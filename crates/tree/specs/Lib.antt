@@ -1,5 +1,1 @@
-pub mod Chunks
-pub mod Rules
 pub mod Judge
-pub mod Repeats
-pub mod Flags

@@ -10,7 +10,7 @@ use lib.Seq.{slice}
 use borrow.Author.Tests.{lt-ltb, le-ltb, eq-eqb, ne-eqb, eqb-true}
 use native.Mathlib.Omega.{arith}
 use Rattle.name.specs.Name.{both, either, pick}
-use Rattle.tree.specs.Chunks.{Chunks, none, Chunk, before, word}
+use Rattle.chunk.specs.Chunks.{Chunks, none, Chunk, before, word}
 use Rattle.tree.specs.Judge.{Found, found, refused, readFile, verdictOf, checkOf}
 use Rattle.tree.specs.declared.Verdict.{Verdict}
 use Rattle.tree.specs.declared.Verdict.the-variants.{Accepted, Refused}

@@ -3,7 +3,7 @@ use Prim.Native.Nat.{ℕ, _+_, _%_, _≤_}
 use mathlib.Core.Path.{_≡_}
 use mathlib.Core.Bool.{Bool}
 use mathlib.Core.List.{List}
-use Rattle.tree.specs.Chunks.{Chunks}
+use Rattle.chunk.specs.Chunks.{Chunks}
 use Rattle.ilbm.specs.Contents.{SharedProp, Property, Content, contentOf}
 use Rattle.ilbm.specs.Pictures.{sizeNot, sizeNotTriples, wrongSize, pictureFault, Viewed, viewed, unseen, judged}
 use Rattle.locate.specs.Spots.{Opens, ScopeIs}

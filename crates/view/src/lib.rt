@@ -1,4 +1,5 @@
 // The picture of a given number: judged, and its content told as parts of the file.
+use chunk::size_at;
 use content::Contents;
 use content::Held;
 use content::content_at;
@@ -9,7 +10,6 @@ use locate::seek;
 use members::Part;
 use tree::Verdict;
 use tree::check;
-use tree::size_at;
 ghost use mathlib.Core.Path.{_≡_};
 ghost use Prim.Native.Nat.{ℕ, _+_, _≤_};
 ghost use Rattle.ilbm.specs.Pictures.{headerFault, viewOf};

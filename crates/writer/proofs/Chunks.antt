@@ -7,7 +7,7 @@ use lib.Seq.{paste, take-all}
 use borrow.Author.Tests.{eq-eqb, ne-eqb}
 use native.Mathlib.Nat.{add-zero}
 use native.Mathlib.Omega.{arith}
-use Rattle.tree.specs.Chunks.{putWord}
+use Rattle.chunk.specs.Chunks.{putWord}
 use Rattle.ilbm.specs.declared.BitmapHeader.{BitmapHeader}
 use Rattle.ilbm.specs.Contents.{ILBM, BMHD, CMAP}
 use Rattle.writer.specs.Parts.{put, chunkHead, chunkBytes, paletteChunk, typeAndHeader, paletteSize, header-length}

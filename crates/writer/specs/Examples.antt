@@ -4,7 +4,7 @@ use mathlib.Core.Path.{_≡_, refl}
 use mathlib.Core.List.{List, [], _∷_}
 use lib.IntN.{pos}
 use lib.ListN.{length}
-use Rattle.tree.specs.Chunks.{bytes}
+use Rattle.chunk.specs.Chunks.{bytes}
 use Rattle.pack.specs.Pack.{three, sameFor, plainFor, pieceOf, packBy, packed}
 use Rattle.ilbm.specs.declared.BitmapHeader.{BitmapHeader}
 use Rattle.writer.specs.Write.{headerBytes, planeByte, planeRow, lineRows, bodyLines, bodyBytes, pictureFile, wrongFields, colourOver, writeOf, lengthOf, numberOf}

@@ -7,7 +7,7 @@ use lib.ListN.{length, take, drop, length-append, length-replicate}
 use borrow.Author.Tests.{ne-eqb}
 use native.Mathlib.Omega.{arith}
 use Rattle.name.specs.Name.{pick}
-use Rattle.tree.specs.Chunks.{Chunks, none, group, putWord, bytes}
+use Rattle.chunk.specs.Chunks.{Chunks, none, group, putWord, bytes}
 use Rattle.ilbm.specs.declared.BitmapHeader.{BitmapHeader}
 use Rattle.ilbm.specs.Contents.{FORM, ILBM, BMHD, CMAP, BODY}
 use Rattle.writer.specs.Write.{headerBytes, bodyBytes, padOf, membersFor, pictureFile}

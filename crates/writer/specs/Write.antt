@@ -6,7 +6,7 @@ use lib.Dec.{ltb, eqb}
 use lib.IntN.{ℤ, pos, negsuc}
 use lib.ListN.{length, getD, take, drop, replicate}
 use Rattle.name.specs.Name.{either, pick}
-use Rattle.tree.specs.Chunks.{Chunks, none, leaf, Chunk, aGroup, before, bytes}
+use Rattle.chunk.specs.Chunks.{Chunks, none, leaf, Chunk, aGroup, before, bytes}
 use Rattle.ilbm.specs.declared.BitmapHeader.{BitmapHeader}
 use Rattle.ilbm.specs.Contents.{FORM, ILBM, BMHD, CMAP, BODY}
 use Rattle.ilbm.specs.Rows.{rowLength}

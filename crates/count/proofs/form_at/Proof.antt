@@ -5,7 +5,7 @@ use Rattle.count.proofs.form_at.Statement.{statement}
 use Rattle.count.proofs.form_at.Tie as tie
 use Rattle.count.proofs.form_at.Reads as reads
 use Rattle.count.proofs.form_at.Lts as lts
-use Rattle.tree.proofs.name_at.Reads as name-at-reads
+use Rattle.chunk.proofs.name_at.Reads as name-at-reads
 
 name-at-requires : tie.Need-name-at-requires
 name-at-requires c κs = search (header-room, needs)

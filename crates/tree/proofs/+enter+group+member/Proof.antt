@@ -7,7 +7,8 @@ use native.Mathlib.Omega.{arith}
 use borrow.Author.Needs.{needs}
 use Rattle.tree.specs.Judge.{chunkAt, membersOf, toldAll}
 use Rattle.tree.proofs.WalkLaws.{Runs, walk-laws}
-use Rattle.tree.proofs.RepeatLaws.{OnWay, way-laws}
+use Rattle.props.proofs.RepeatLaws.{OnWay}
+use Rattle.tree.proofs.WayLaws.{way-laws}
 use borrow.Fn.Kinds.{In}
 use borrow.Fn.PlainCycle.{Measures, is, falls, and}
 use Rattle.tree.proofs.enter.Reads as enter
@@ -19,9 +20,9 @@ use Rattle.tree.proofs.+enter+group+member.Lts-group as group-lts
 use Rattle.tree.proofs.member.Reads as member
 use Rattle.tree.proofs.member.Kinds as member-kinds
 use Rattle.tree.proofs.+enter+group+member.Lts-member as member-lts
-use Rattle.tree.proofs.after.Reads as after-reads
-use Rattle.tree.proofs.fresh_in_group.Reads as fresh-in-group-reads
-use Rattle.tree.proofs.inside.Reads as inside-reads
+use Rattle.chunk.proofs.after.Reads as after-reads
+use Rattle.props.proofs.fresh_in_group.Reads as fresh-in-group-reads
+use Rattle.chunk.proofs.inside.Reads as inside-reads
 use Rattle.tree.proofs.judge_header.Reads as judge-header-reads
 use Rattle.tree.proofs.+enter+group+member.{statement}
 use Rattle.tree.proofs.+enter+group+member.Tie.{close}

@@ -7,9 +7,9 @@ use Rattle.tree.proofs.group_header.Statement.{statement}
 use Rattle.tree.proofs.group_header.Tie as tie
 use Rattle.tree.proofs.group_header.Reads as reads
 use Rattle.tree.proofs.group_header.Lts as lts
-use Rattle.tree.proofs.group_type.Reads as group-type-reads
-use Rattle.tree.proofs.name_at.Reads as name-at-reads
-use Rattle.tree.proofs.second_prop.Reads as second-prop-reads
+use Rattle.chunk.proofs.group_type.Reads as group-type-reads
+use Rattle.chunk.proofs.name_at.Reads as name-at-reads
+use Rattle.props.proofs.second_prop.Reads as second-prop-reads
 
 returns : tie.Need-returns
 returns c = search (refuse-9, needs)

@@ -8,8 +8,8 @@ use Rattle.tree.proofs.judge_header.Lts as lts
 use Rattle.name.proofs.Name.is_version.Reads as is-version-reads
 use Rattle.name.proofs.Name.is_well_formed.Reads as is-well-formed-reads
 use Rattle.name.proofs.Name.kind.Reads as kind-reads
-use Rattle.tree.proofs.misplaced.Reads as misplaced-reads
-use Rattle.tree.proofs.name_at.Reads as name-at-reads
+use Rattle.chunk.proofs.misplaced.Reads as misplaced-reads
+use Rattle.chunk.proofs.name_at.Reads as name-at-reads
 use Rattle.tree.proofs.sized_header.Reads as sized-header-reads
 
 sub-if1 : tie.Need-sub-if1

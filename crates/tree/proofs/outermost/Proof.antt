@@ -1,6 +1,6 @@
 -- Each way through the code takes the same branch of the definition; the places it reads lie inside by laws of WalkLaws.antt.
 use Rattle.tree.proofs.WalkLaws.{file-laws}
-use Rattle.tree.proofs.RepeatLaws.{way-laws}
+use Rattle.tree.proofs.WayLaws.{way-laws}
 use borrow.Author.Needs.{needs}
 use Rattle.tree.proofs.outermost.Statement.{statement}
 use Rattle.tree.proofs.outermost.Tie as tie

@@ -6,8 +6,8 @@ use Rattle.tree.proofs.sized_header.Tie as tie
 use Rattle.tree.proofs.sized_header.Reads as reads
 use Rattle.tree.proofs.sized_header.Lts as lts
 use Rattle.tree.proofs.group_header.Reads as group-header-reads
-use Rattle.tree.proofs.is_group.Reads as is-group-reads
-use Rattle.tree.proofs.size_at.Reads as size-at-reads
+use Rattle.chunk.proofs.is_group.Reads as is-group-reads
+use Rattle.chunk.proofs.size_at.Reads as size-at-reads
 
 sub-room : tie.Need-sub-room
 sub-room c = search needs

@@ -1,0 +1,32 @@
+-- The search over all classes says it of a long run; before place 0 there is no PROP.
+use Rattle.props.proofs.RepeatLaws.{repeat-laws}
+use borrow.Author.Needs.{needs}
+use Rattle.props.proofs.fresh_in_list.Statement.{statement}
+use Rattle.props.proofs.fresh_in_list.Tie as tie
+use Rattle.props.proofs.fresh_in_list.Reads as reads
+use Rattle.props.proofs.fresh_in_list.Lts as lts
+use Rattle.props.proofs.fresh_before.Reads as fresh-before-reads
+use Rattle.props.proofs.prop_run.Reads as prop-run-reads
+
+returns : tie.Need-returns
+returns c = search (repeat-laws, needs)
+
+sub-prop-run : tie.Need-sub-prop-run
+sub-prop-run c = search needs
+
+prop-run-requires : tie.Need-prop-run-requires
+prop-run-requires c κs = search needs
+
+returns-2 : tie.Need-returns-2
+returns-2 c = search (repeat-laws, needs)
+
+fresh-before-requires : tie.Need-fresh-before-requires
+fresh-before-requires c κs = search needs
+
+returns-3 : tie.Need-returns-3
+returns-3 c = search needs
+
+pub fresh-in-list-spec : {M : Type 1} → statement M
+fresh-in-list-spec =
+    tie.close
+    (tie.spec returns sub-prop-run prop-run-requires returns-2 fresh-before-requires returns-3)
