@@ -5,21 +5,22 @@ use mathlib.Core.List.{List, [], _∷_, _++_}
 use lib.ListN.{length, length-append}
 use mir.Syntax.{w64}
 use mir.Val.{Fits}
-use native.Mathlib.Nat.{zero-add, one-le-pow}
+use native.Mathlib.Nat.{zero-add}
 use native.Mathlib.Omega.{arith}
 use Rattle.pack.specs.Written.{writtenRow, written-short}
 use Rattle.writer.specs.Parts.{put, Room}
 use Rattle.writer.specs.Write.{planeRow, lineRows}
 use Rattle.writer.proofs.Buffers.{Putting, putting-none, putting-length, putting-room, putting-more, putting-all}
 use Rattle.writer.proofs.Planes.{row-length}
-use Rattle.writer.proofs.Refusals.{power-small, power-more}
+use Rattle.writer.proofs.Refusals.{power-more}
 
--- the plane of this weight and those after it
+-- plane k and those after it
 pub rows-step :
-    (compression n : ℕ) (line : List ℕ) (weight planes k : ℕ) → k < planes →
-    lineRows compression n line weight (planes - k) ≡ writtenRow compression (planeRow weight line 0 n) ++ lineRows compression n line (weight * 2) (planes - (k + 1))
+    (compression n : ℕ) (line : List ℕ) (planes k : ℕ) → k < planes →
+    lineRows compression n line (2 ^ k) (planes - k)
+    ≡ writtenRow compression (planeRow (2 ^ k) line 0 n) ++ lineRows compression n line (2 ^ (k + 1)) (planes - (k + 1))
 unfolding lineRows
-rows-step compression n line weight planes k h = let e : planes - k ≡ suc (planes - (k + 1)) = omega arith in rw e
+rows-step compression n line planes k h = let e : planes - k ≡ suc (planes - (k + 1)) = omega arith in rw (e, ← power-more k (2 ^ k) refl)
 
 pub rows-end : (compression n : ℕ) (line : List ℕ) (weight planes k : ℕ) → planes ≤ k → lineRows compression n line weight (planes - k) ≡ []
 unfolding lineRows
@@ -30,93 +31,78 @@ row-short compression n line weight h =
     let l : length (planeRow weight line 0 n) ≡ n = row-length weight line 0 n in
     omega (arith, written-short compression (planeRow weight line 0 n))
 
-pub record Counted (compression n : ℕ) (line : List ℕ) (planes total weight k : ℕ) : Type 0 where
+pub record Counted (compression n : ℕ) (line : List ℕ) (planes total k : ℕ) : Type 0 where
   pub inside : k ≤ planes
-  pub power : weight ≡ 2 ^ k
   pub short : total ≤ k * 8256
-  pub is : length (lineRows compression n line 1 planes) ≡ total + length (lineRows compression n line weight (planes - k))
+  pub is : length (lineRows compression n line 1 planes) ≡ total + length (lineRows compression n line (2 ^ k) (planes - k))
 
-pub power-positive : (k weight : ℕ) → weight ≡ 2 ^ k → 0 < weight
-power-positive k weight e = let p : 1 ≤ 2 ^ k = one-le-pow k 2 (omega arith) in omega arith
+pub plane-below : (k planes : ℕ) → k < planes → planes ≤ 8 → k < 8
+plane-below k planes h l = omega arith
 
 module _ (compression n : ℕ) (line : List ℕ) (planes : ℕ) where
-  pub counted-none : Counted compression n line planes 0 1 0
-  counted-none = let z : planes - 0 ≡ planes = omega arith in record { inside = omega arith; power = refl; short = omega arith; is = rw (z, zero-add (length (lineRows compression n line 1 planes))) }
+  pub counted-none : Counted compression n line planes 0 0
+  counted-none = let z : planes - 0 ≡ planes = omega arith in record { inside = omega arith; short = omega arith; is = rw (z, zero-add (length (lineRows compression n line 1 planes))) }
 
-  module _ (total weight k : ℕ) (c : Counted compression n line planes total weight k) where
-    pub counted-weight : 0 < weight
-    counted-weight = power-positive k weight (c .power)
-
-    pub counted-next : k < planes → planes ≤ 8 → Fits w64 (weight * 2)
-    counted-next h l = record { fits = omega (arith, power-small k weight (c .power) (omega arith)) }
-
-    module _ (r : ℕ) (d : r ≡ length (writtenRow compression (planeRow weight line 0 n))) (h : k < planes) (m : n ≤ 8192) (l : planes ≤ 8) where
+  module _ (total k : ℕ) (c : Counted compression n line planes total k) where
+    module _ (r : ℕ) (d : r ≡ length (writtenRow compression (planeRow (2 ^ k) line 0 n))) (h : k < planes) (m : n ≤ 8192) (l : planes ≤ 8) where
       pub counted-fits : Fits w64 (total + r)
-      counted-fits = let s = row-short compression n line weight m in let t = c .short in record { fits = omega arith }
+      counted-fits = let s = row-short compression n line (2 ^ k) m in let t = c .short in record { fits = omega arith }
 
-      pub counted-more : Counted compression n line planes (total + r) (weight * 2) (k + 1)
+      pub counted-more : Counted compression n line planes (total + r) (k + 1)
       counted-more =
-          let s = row-short compression n line weight m in
+          let s = row-short compression n line (2 ^ k) m in
           let t = c .short in
-          let e = ap (λ (q : List ℕ). length q) (rows-step compression n line weight planes k h) ∙ length-append (writtenRow compression (planeRow weight line 0 n)) (lineRows compression n line (weight * 2) (planes - (k + 1))) in
-          record { inside = omega arith; power = power-more k weight (c .power); short = omega arith; is = c .is ∙ omega arith }
+          let e = ap (λ (q : List ℕ). length q) (rows-step compression n line planes k h) ∙ length-append (writtenRow compression (planeRow (2 ^ k) line 0 n)) (lineRows compression n line (2 ^ (k + 1)) (planes - (k + 1))) in
+          record { inside = omega arith; short = omega arith; is = c .is ∙ omega arith }
 
     pub counted-all : planes ≤ k → total ≡ length (lineRows compression n line 1 planes)
     counted-all h =
-        let e = ap (λ (q : List ℕ). length q) (rows-end compression n line weight planes k h) in
+        let e = ap (λ (q : List ℕ). length q) (rows-end compression n line (2 ^ k) planes k h) in
         omega (arith, c .is)
 
     pub counted-short : planes ≤ k → planes ≤ 8 → total ≤ 66048
     counted-short h l = let i = c .inside in let t = c .short in omega arith
 
-pub ruleset count-laws = (counted-none, counted-weight, counted-next, counted-fits, counted-more, counted-all, counted-short)
+pub ruleset count-laws = (plane-below, counted-none, counted-fits, counted-more, counted-all, counted-short)
 
 -- the rows of a line that are put
-pub record Rowed (compression n : ℕ) (line : List ℕ) (planes : ℕ) (old : List ℕ) (at : ℕ) (out : List ℕ) (q weight k : ℕ) : Type 0 where
+pub record Rowed (compression n : ℕ) (line : List ℕ) (planes : ℕ) (old : List ℕ) (at : ℕ) (out : List ℕ) (q k : ℕ) : Type 0 where
   pub inside : k ≤ planes
-  pub power : weight ≡ 2 ^ k
-  pub putting : Putting (lineRows compression n line 1 planes) old at out q (lineRows compression n line weight (planes - k))
+  pub putting : Putting (lineRows compression n line 1 planes) old at out q (lineRows compression n line (2 ^ k) (planes - k))
 
 module _ (compression n : ℕ) (line : List ℕ) (planes : ℕ) (old : List ℕ) (at : ℕ) where
-  pub rowed-none : Rowed compression n line planes old at old at 1 0
-  rowed-none = let z : planes - 0 ≡ planes = omega arith in record { inside = omega arith; power = refl; putting = rw z (putting-none (lineRows compression n line 1 planes) old at) }
+  pub rowed-none : Rowed compression n line planes old at old at 0
+  rowed-none = let z : planes - 0 ≡ planes = omega arith in record { inside = omega arith; putting = rw z (putting-none (lineRows compression n line 1 planes) old at) }
 
-  module _ (out : List ℕ) (q weight k : ℕ) (c : Rowed compression n line planes old at out q weight k) where
-    pub rowed-weight : 0 < weight
-    rowed-weight = power-positive k weight (c .power)
-
-    pub rowed-next : k < planes → planes ≤ 8 → Fits w64 (weight * 2)
-    rowed-next h l = record { fits = omega (arith, power-small k weight (c .power) (omega arith)) }
-
+  module _ (out : List ℕ) (q k : ℕ) (c : Rowed compression n line planes old at out q k) where
     module _ (room : Room (lineRows compression n line 1 planes) old at) where
       pub rowed-same : length out ≡ length old
       rowed-same = putting-length _ _ _ _ _ _ (c .putting) room
 
       module _ (h : k < planes) where
-        row-room : Room (writtenRow compression (planeRow weight line 0 n)) out q
-        row-room = putting-room _ _ _ _ _ _ (c .putting) room (writtenRow compression (planeRow weight line 0 n)) (lineRows compression n line (weight * 2) (planes - (k + 1))) (rows-step compression n line weight planes k h)
+        row-room : Room (writtenRow compression (planeRow (2 ^ k) line 0 n)) out q
+        row-room = putting-room _ _ _ _ _ _ (c .putting) room (writtenRow compression (planeRow (2 ^ k) line 0 n)) (lineRows compression n line (2 ^ (k + 1)) (planes - (k + 1))) (rows-step compression n line planes k h)
 
-        pub rowed-room : q + length (writtenRow compression (planeRow weight line 0 n)) ≤ length out
+        pub rowed-room : q + length (writtenRow compression (planeRow (2 ^ k) line 0 n)) ≤ length out
         rowed-room = row-room .fits
 
-        pub rowed-fits : (r : ℕ) → r ≡ length (writtenRow compression (planeRow weight line 0 n)) → Fits w64 (q + r)
+        pub rowed-fits : (r : ℕ) → r ≡ length (writtenRow compression (planeRow (2 ^ k) line 0 n)) → Fits w64 (q + r)
         rowed-fits r d = let s = row-room .short in record { fits = omega arith }
 
         pub rowed-more :
-            (r : ℕ) (after : List ℕ) → r ≡ length (writtenRow compression (planeRow weight line 0 n)) →
-            after ≡ put out q (writtenRow compression (planeRow weight line 0 n)) → Rowed compression n line planes old at after (q + r) (weight * 2) (k + 1)
+            (r : ℕ) (after : List ℕ) → r ≡ length (writtenRow compression (planeRow (2 ^ k) line 0 n)) →
+            after ≡ put out q (writtenRow compression (planeRow (2 ^ k) line 0 n)) → Rowed compression n line planes old at after (q + r) (k + 1)
         rowed-more r after d w =
-            let e : q + r ≡ q + length (writtenRow compression (planeRow weight line 0 n)) = omega arith in
+            let e : q + r ≡ q + length (writtenRow compression (planeRow (2 ^ k) line 0 n)) = omega arith in
             record {
               inside = omega arith;
-              power = power-more k weight (c .power);
-              putting = putting-more _ _ _ _ _ _ (c .putting) room (writtenRow compression (planeRow weight line 0 n)) (lineRows compression n line (weight * 2) (planes - (k + 1))) (rows-step compression n line weight planes k h) (q + r) after e w;
+              putting = putting-more _ _ _ _ _ _ (c .putting) room (writtenRow compression (planeRow (2 ^ k) line 0 n)) (lineRows compression n line (2 ^ (k + 1)) (planes - (k + 1))) (rows-step compression n line planes k h) (q + r) after e w;
             }
 
       pub rowed-ends : planes ≤ k → q ≡ at + length (lineRows compression n line 1 planes)
-      rowed-ends h = putting-all _ _ _ _ _ _ (c .putting) room (rows-end compression n line weight planes k h) .0
+      rowed-ends h = putting-all _ _ _ _ _ _ (c .putting) room (rows-end compression n line (2 ^ k) planes k h) .0
 
       pub rowed-bytes : planes ≤ k → out ≡ put old at (lineRows compression n line 1 planes)
-      rowed-bytes h = putting-all _ _ _ _ _ _ (c .putting) room (rows-end compression n line weight planes k h) .1
+      rowed-bytes h = putting-all _ _ _ _ _ _ (c .putting) room (rows-end compression n line (2 ^ k) planes k h) .1
 
-pub ruleset rowed-laws = (rowed-none, rowed-weight, rowed-next, rowed-same, rowed-room, rowed-fits, rowed-more, rowed-ends, rowed-bytes)
+pub ruleset rowed-laws = (plane-below, rowed-none, rowed-same, rowed-room, rowed-fits, rowed-more, rowed-ends, rowed-bytes)

@@ -3,26 +3,25 @@ use Prim.Native.Nat.{ℕ, zero, suc, _+_, _*_, _/_, _%_, _≤_, _<_}
 use mathlib.Core.Path.{_≡_, refl, sym, ap, _∙_}
 use mathlib.Core.List.{List, [], _∷_, _++_}
 use lib.ListN.{length, getD, take, set, length-set, List·getD-eq-default}
-use native.Mathlib.Nat.{zero-div, zero-add, add-zero}
+use native.Mathlib.Nat.{zero-add, add-zero}
 use native.Mathlib.Numerals.{add-one}
 use native.Mathlib.Omega.{arith}
 use Rattle.writer.specs.Parts.{put}
-use Rattle.writer.specs.Write.{planeBit, planeByte, planeRow}
+use Rattle.writer.specs.Write.{eightBits, pixel, bitsFrom, planeByte, planeRow}
 use Rattle.writer.proofs.Buffers.{put-none, put-next}
 
-pub beyond-line : (line : List ℕ) (weight x : ℕ) → length line ≤ x → 0 ≡ planeBit weight line x
-beyond-line line weight x h = sym (rw (List·getD-eq-default line 0 h, zero-div weight))
+pub beyond-line : (line : List ℕ) (x : ℕ) → length line ≤ x → 0 ≡ pixel line x
+beyond-line line x h = sym (List·getD-eq-default line 0 h)
 
-pub bit-is : (line : List ℕ) (weight x v : ℕ) → v ≡ getD line x 0 → v / weight % 2 ≡ planeBit weight line x
-bit-is line weight x v e = rw e
+pub bits-are :
+    (weight : ℕ) (line : List ℕ) (x r a b c d e f g h : ℕ) → a ≡ pixel line x → b ≡ pixel line (x + 1) → c ≡ pixel line (x + 2) → d ≡ pixel line (x + 3) →
+    e ≡ pixel line (x + 4) → f ≡ pixel line (x + 5) → g ≡ pixel line (x + 6) → h ≡ pixel line (x + 7) → r ≡ eightBits weight a b c d e f g h →
+    r ≡ bitsFrom weight line x
+bits-are weight line x r a b c d e f g h i j k l m n o p q = rw (← i, ← j, ← k, ← l, ← m, ← n, ← o, ← p) q
 
-pub byte-is :
-    (weight : ℕ) (line : List ℕ) (j a b c d e f g h : ℕ) → a ≡ planeBit weight line (8 * j) → b ≡ planeBit weight line (8 * j + 1) →
-    c ≡ planeBit weight line (8 * j + 2) → d ≡ planeBit weight line (8 * j + 3) → e ≡ planeBit weight line (8 * j + 4) →
-    f ≡ planeBit weight line (8 * j + 5) → g ≡ planeBit weight line (8 * j + 6) → h ≡ planeBit weight line (8 * j + 7) →
-    a * 128 + b * 64 + c * 32 + d * 16 + e * 8 + f * 4 + g * 2 + h ≡ planeByte weight line j
+pub byte-is : (weight : ℕ) (line : List ℕ) (j r x : ℕ) → x ≡ 8 * j → r ≡ bitsFrom weight line x → r ≡ planeByte weight line j
 unfolding planeByte
-byte-is weight line j a b c d e f g h p q r s t u v w = cc
+byte-is weight line j r x e d = rw e at d
 
 pub row-length : (weight : ℕ) (line : List ℕ) (j n : ℕ) → length (planeRow weight line j n) ≡ n
 unfolding planeRow
@@ -72,4 +71,4 @@ module _ (weight : ℕ) (line old : List ℕ) (at n : ℕ) where
       let z : j ≡ n = omega arith in
       rw z at (f .bytes)
 
-pub ruleset row-laws = (beyond-line, bit-is, byte-is, filled-none, filled-room, filled-more, filled-same, filled-all)
+pub ruleset row-laws = (beyond-line, bits-are, byte-is, filled-none, filled-room, filled-more, filled-same, filled-all)

@@ -6,10 +6,10 @@ use Rattle.writer.proofs.line_len.Statement.{statement}
 use Rattle.writer.proofs.line_len.Tie as tie
 
 abbrev Inv-loop : tie.InvT-loop
-Inv-loop compression n line planes total₀ weight₀ k₀ total weight k = Counted compression n line planes total weight k
+Inv-loop compression n line planes total₀ k₀ total k = Counted compression n line planes total k
 
 abbrev μ-loop : tie.MeasureT-loop
-μ-loop compression n line planes total₀ weight₀ k₀ total weight k = planes - k
+μ-loop compression n line planes total₀ k₀ total k = planes - k
 
 loop-holds : tie.Need-loop-holds Inv-loop μ-loop
 loop-holds c = search (count-laws, needs)
@@ -19,9 +19,6 @@ row-len-requires c κs = search (count-laws, needs)
 
 add-total : tie.Need-add-total Inv-loop μ-loop
 add-total c = search (count-laws, needs)
-
-mul-weight : tie.Need-mul-weight Inv-loop μ-loop
-mul-weight c = search (count-laws, needs)
 
 add-k : tie.Need-add-k Inv-loop μ-loop
 add-k c = search (count-laws, needs)
@@ -44,7 +41,6 @@ line-len-spec =
     loop-holds
     row-len-requires
     add-total
-    mul-weight
     add-k
     loop-less
     loop-again

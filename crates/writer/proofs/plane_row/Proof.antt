@@ -1,15 +1,15 @@
 -- The loop's invariant: the first j bytes of the row stand at their place. The measure is the bytes left.
-use Prim.Native.Nat.{_-_}
+use Prim.Native.Nat.{_-_, _^_}
 use borrow.Author.Needs.{needs}
 use Rattle.writer.proofs.Planes.{Filled, row-laws}
 use Rattle.writer.proofs.plane_row.Statement.{statement}
 use Rattle.writer.proofs.plane_row.Tie as tie
 
 abbrev Inv-loop : tie.InvT-loop
-Inv-loop line weight n out₀ at j₀ out j = Filled weight line out₀ out at j n
+Inv-loop line k n out₀ at j₀ out j = Filled (2 ^ k) line out₀ out at j n
 
 abbrev μ-loop : tie.MeasureT-loop
-μ-loop line weight n out₀ at j₀ out j = n - j
+μ-loop line k n out₀ at j₀ out j = n - j
 
 loop-holds : tie.Need-loop-holds Inv-loop μ-loop
 loop-holds c = search (row-laws, needs)

@@ -6,10 +6,10 @@ use Rattle.writer.proofs.put_line.Statement.{statement}
 use Rattle.writer.proofs.put_line.Tie as tie
 
 abbrev Inv-loop : tie.InvT-loop
-Inv-loop compression n line planes out₀ at q₀ weight₀ k₀ out q weight k = Rowed compression n line planes out₀ at out q weight k
+Inv-loop compression n line planes out₀ at q₀ k₀ out q k = Rowed compression n line planes out₀ at out q k
 
 abbrev μ-loop : tie.MeasureT-loop
-μ-loop compression n line planes out₀ at q₀ weight₀ k₀ out q weight k = planes - k
+μ-loop compression n line planes out₀ at q₀ k₀ out q k = planes - k
 
 loop-holds : tie.Need-loop-holds Inv-loop μ-loop
 loop-holds c = search (rowed-laws, needs)
@@ -19,9 +19,6 @@ put-row-requires c κs = search (rowed-laws, needs)
 
 add-q : tie.Need-add-q Inv-loop μ-loop
 add-q c = search (rowed-laws, needs)
-
-mul-weight : tie.Need-mul-weight Inv-loop μ-loop
-mul-weight c = search (rowed-laws, needs)
 
 add-k : tie.Need-add-k Inv-loop μ-loop
 add-k c = search (rowed-laws, needs)
@@ -47,7 +44,6 @@ put-line-spec =
     loop-holds
     put-row-requires
     add-q
-    mul-weight
     add-k
     loop-less
     loop-again
