@@ -18,7 +18,8 @@ use Rattle.ilbm.specs.Pictures.{Viewed, viewed, unseen, viewIn, viewOf, pickCon
 use Rattle.ilbm.specs.Rows.{Read, read, frameRead, linesFrom, leftover, frameOf}
 use Rattle.writer.specs.declared.WriteAnswer.{WriteAnswer}
 use Rattle.writer.specs.declared.WriteAnswer.the-variants.{Written}
-use Rattle.writer.specs.Write.{headerBytes, bodyLines, bodyBytes, pictureForm, pictureFile, writeOf, outAfter}
+use Rattle.body.specs.Body.{bodyLines, bodyBytes}
+use Rattle.writer.specs.Write.{headerBytes, pictureForm, pictureFile, writeOf, outAfter}
 use Rattle.roundtrip.specs.Header.{InRange, withoutPad, header-back}
 use Rattle.roundtrip.specs.Lines.{lines-back}
 use Rattle.roundtrip.specs.Seen.{contentFor, one-content, pictureFor, picture-told, palette-told, no-fault}

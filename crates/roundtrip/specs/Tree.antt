@@ -14,7 +14,8 @@ use Rattle.grammar.specs.Grammar.{Members, height, ChunkFile}
 use Rattle.grammar.specs.Accept.{complete, ends}
 use Rattle.ilbm.specs.declared.BitmapHeader.{BitmapHeader}
 use Rattle.ilbm.specs.Contents.{CMAP, BODY}
-use Rattle.writer.specs.Write.{headerBytes, padOf, paletteThen, membersFor, bodyBytes, pictureForm, pictureFile}
+use Rattle.body.specs.Body.{bodyBytes}
+use Rattle.writer.specs.Write.{headerBytes, padOf, paletteThen, membersFor, pictureForm, pictureFile}
 
 -- FORM, BMHD and BODY, and CMAP if there is a palette
 abbrev pub chunksFor : List ℕ → ℕ

@@ -1,9 +1,4 @@
-pub mod Body
-pub mod Buffers
 pub mod Chunks
 pub mod Files
-pub mod Lines
-pub mod Planes
 pub mod Refusals
-pub mod Rows
 pub mod Signed

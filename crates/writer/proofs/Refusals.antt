@@ -14,6 +14,7 @@ use native.Mathlib.Numerals.{add-one}
 use native.Mathlib.Omega.{arith}
 use Rattle.name.specs.Name.{either}
 use Rattle.ilbm.specs.declared.BitmapHeader.{BitmapHeader}
+use Rattle.body.proofs.Lines.{power-more}
 use Rattle.writer.specs.Write.{wrongFields, colourOver}
 
 either-true : (a : Bool) → either a true ≡ true
@@ -87,9 +88,6 @@ pub ruleset field-laws = (wrong-width, wrong-height, no-planes, many-planes, mas
 -- a power of two is small
 pub power-small : (k v : ℕ) → v ≡ 2 ^ k → k ≤ 8 → v ≤ 256
 power-small k v e h = let p : 2 ^ k ≤ 2 ^ 8 = pow-le-pow-right (omega arith) h in omega arith
-
-pub power-more : (k v : ℕ) → v ≡ 2 ^ k → v * 2 ≡ 2 ^ (k + 1)
-power-more k v e = rw (add-one, pow-suc 2 k, e)
 
 pub power-at : (i k v : ℕ) → i ≤ k → k ≤ i → v ≡ 2 ^ i → v ≡ 2 ^ k
 power-at i k v a b e = let z : i ≡ k = omega arith in cc

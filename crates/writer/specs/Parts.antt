@@ -10,16 +10,8 @@ use Rattle.name.specs.Name.{pick}
 use Rattle.chunk.specs.Chunks.{Chunks, none, group, putWord, bytes}
 use Rattle.ilbm.specs.declared.BitmapHeader.{BitmapHeader}
 use Rattle.ilbm.specs.Contents.{FORM, ILBM, BMHD, CMAP, BODY}
-use Rattle.writer.specs.Write.{headerBytes, bodyBytes, padOf, membersFor, pictureFile}
-
--- these bytes at a place of a buffer
-abbrev pub put : List ℕ → ℕ → List ℕ → List ℕ
-put out at bs = take at out ++ (bs ++ drop (at + length bs) out)
-
--- these bytes fit a buffer from a place on, and a file
-pub record Room (bs out : List ℕ) (at : ℕ) : Type 0 where
-  pub fits : at + length bs ≤ length out
-  pub short : at + length bs ≤ 16777216
+use Rattle.body.specs.Body.{bodyBytes}
+use Rattle.writer.specs.Write.{headerBytes, padOf, membersFor, pictureFile}
 
 -- the header of a chunk
 abbrev pub chunkHead : ℕ → ℕ → List ℕ

@@ -1,16 +1,15 @@
 -- 01 "Writing": one picture as a FORM ILBM, and the refusals 33, 34, 35 and 32.
-use Prim.Native.Nat.{ℕ, zero, suc, _+_, _-_, _*_, _/_, _%_, _^_}
+use Prim.Native.Nat.{ℕ, _-_, _*_, _/_, _%_, _^_}
 use mathlib.Core.Bool.{Bool, true, false, not}
 use mathlib.Core.List.{List, [], _∷_, _++_}
 use lib.Dec.{ltb, eqb}
 use lib.IntN.{ℤ, pos, negsuc}
-use lib.ListN.{length, getD, take, drop, replicate}
+use lib.ListN.{length, drop, replicate}
 use Rattle.name.specs.Name.{either, pick}
 use Rattle.chunk.specs.Chunks.{Chunks, none, leaf, Chunk, aGroup, before, bytes}
 use Rattle.ilbm.specs.declared.BitmapHeader.{BitmapHeader}
 use Rattle.ilbm.specs.Contents.{FORM, ILBM, BMHD, CMAP, BODY}
-use Rattle.ilbm.specs.Rows.{rowLength}
-use Rattle.pack.specs.Written.{writtenRow}
+use Rattle.body.specs.Body.{bodyBytes}
 use Rattle.writer.specs.declared.WriteAnswer.{WriteAnswer}
 use Rattle.writer.specs.declared.WriteAnswer.the-variants.{Written, Refused}
 
@@ -32,43 +31,6 @@ headerBytes b =
     (b .planes ∷ b .masking ∷ b .compression ∷ 0 ∷
     putShort (b .transparent) (b .«x_aspect» ∷ b .«y_aspect» ∷
     putShort (unsigned (b .«page_width»)) (putShort (unsigned (b .«page_height»)) []))))))
-
--- ---- the rows
-
--- "with weight 2^k": the bit that pixel x of a line has in the plane of this weight; a pixel from the line's end on has none, so "row bits
--- from w on are 0"
-abbrev pub planeBit : ℕ → List ℕ → ℕ → ℕ
-planeBit weight line x = getD line x 0 / weight % 2
-
--- "the bit 7 - (x mod 8) of byte floor(x/8)": byte j of the plane of this weight
-unfoldable pub planeByte : ℕ → List ℕ → ℕ → ℕ
-planeByte weight line j =
-    planeBit weight line (8 * j) * 128 + planeBit weight line (8 * j + 1) * 64 + planeBit weight line (8 * j + 2) * 32
-    + planeBit weight line (8 * j + 3) * 16 + planeBit weight line (8 * j + 4) * 8 + planeBit weight line (8 * j + 5) * 4
-    + planeBit weight line (8 * j + 6) * 2 + planeBit weight line (8 * j + 7)
-
--- n bytes of that plane, from byte j on
-unfoldable pub planeRow : ℕ → List ℕ → ℕ → ℕ → List ℕ
-planeRow weight line j zero = []
-planeRow weight line j (suc n) = planeByte weight line j ∷ planeRow weight line (j + 1) n
-
--- so many plane rows of n bytes, from the plane of this weight on, each as the compression says
-unfoldable pub lineRows : ℕ → ℕ → List ℕ → ℕ → ℕ → List ℕ
-lineRows compression n line weight zero = []
-lineRows compression n line weight (suc rows) =
-    writtenRow compression (planeRow weight line 0 n) ++ lineRows compression n line (weight * 2) rows
-
--- "A scan line is one row for each plane, plane 0 first"
-abbrev pub lineBytes : BitmapHeader → List ℕ → List ℕ
-lineBytes b line = lineRows (b .compression) (rowLength (b .w)) line 1 (b .planes)
-
--- so many scan lines, one after the other
-unfoldable pub bodyLines : BitmapHeader → List ℕ → ℕ → List ℕ
-bodyLines b frame zero = []
-bodyLines b frame (suc lines) = lineBytes b (take (b .w) frame) ++ bodyLines b (drop (b .w) frame) lines
-
-abbrev pub bodyBytes : BitmapHeader → List ℕ → List ℕ
-bodyBytes b frame = bodyLines b frame (b .h)
 
 -- ---- the file
 

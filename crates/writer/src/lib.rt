@@ -1,12 +1,14 @@
 // The picture writer: the length is settled before a byte is written.
+use body::body_len;
+use body::put_body;
 use ilbm::BitmapHeader;
 ghost use mathlib.Core.Path.{_≡_};
 ghost use Prim.Native.Nat.{_+_, _*_, _/_, _%_, _^_, _≤_, _<_};
 ghost use lib.ListN.{length, replicate};
-ghost use Rattle.pack.specs.Pack.{packed};
-ghost use Rattle.pack.specs.Written.{writtenRow};
-ghost use Rattle.writer.specs.Write.{unsigned, headerBytes, planeBit, planeByte, planeRow, lineRows, bodyBytes, pictureFile, wrongFields, colourOver, writeOf, outAfter};
-ghost use Rattle.writer.specs.Parts.{put, Room, chunkHead, paletteChunk, typeAndHeader, paletteSize};
+ghost use Rattle.body.specs.Body.{bodyBytes};
+ghost use Rattle.body.specs.Put.{put, Room};
+ghost use Rattle.writer.specs.Write.{unsigned, headerBytes, pictureFile, wrongFields, colourOver, writeOf, outAfter};
+ghost use Rattle.writer.specs.Parts.{chunkHead, paletteChunk, typeAndHeader, paletteSize};
 
 // The length of the written file, or the number of a refusal.
 pub enum WriteAnswer {
@@ -83,133 +85,6 @@ fn colour_over(most: usize, frame: &[u8]) -> bool
     false
 }
 
-// The bit of pixel x in the plane of this weight.
-fn plane_bit(line: &[u8], weight: usize, x: usize) -> u8
-    requires { ⌜ 0 < weight ⌝ }
-    ensures is { λ r. ⌜ r ≡ planeBit weight (now (line .entry)) x ⌝ }
-    ensures low { λ r. ⌜ r < 2 ⌝ }
-{
-    if line.len() <= x {
-        return 0;
-    }
-    let c = wide(line[x]);
-    (c / weight % 2) as u8
-}
-
-// Byte j of a plane row.
-fn plane_byte(line: &[u8], weight: usize, j: usize) -> u8
-    requires { ⌜ (0 < weight) × (j < 8192) ⌝ }
-    ensures { λ r. ⌜ r ≡ planeByte weight (now (line .entry)) j ⌝ }
-{
-    let x = 8 * j;
-    plane_bit(line, weight, x) * 128
-        + plane_bit(line, weight, x + 1) * 64
-        + plane_bit(line, weight, x + 2) * 32
-        + plane_bit(line, weight, x + 3) * 16
-        + plane_bit(line, weight, x + 4) * 8
-        + plane_bit(line, weight, x + 5) * 4
-        + plane_bit(line, weight, x + 6) * 2
-        + plane_bit(line, weight, x + 7)
-}
-
-// Writes a plane row of n bytes.
-fn plane_row(line: &[u8], weight: usize, n: usize, out: &mut [u8], at: usize)
-    requires { ⌜ (0 < weight) × (n ≤ 8192) × (at + n ≤ length (now out)) ⌝ }
-    ensures { λ _. ⌜ now (out .exit) ≡ put (now (out .entry)) at (planeRow weight (now (line .entry)) 0 n) ⌝ }
-{
-    let mut j = 0;
-    while j < n {
-        out[at + j] = plane_byte(line, weight, j);
-        j += 1;
-    }
-}
-
-// The length of a plane row that is packed; the row is made in a buffer of its length.
-fn packed_row_len(line: &[u8], weight: usize, n: usize, row: &mut [u8]) -> usize
-    requires { ⌜ (0 < weight) × (n ≤ 8192) × (length (now row) ≡ n) ⌝ }
-    ensures { λ r. ⌜ r ≡ length (packed (planeRow weight (now (line .entry)) 0 n)) ⌝ }
-{
-    plane_row(line, weight, n, row, 0);
-    pack::packed_len(row)
-}
-
-// The length of a plane row as it is written.
-fn row_len(compression: u8, line: &[u8], weight: usize, n: usize) -> usize
-    requires { ⌜ (0 < weight) × (n ≤ 8192) ⌝ }
-    ensures { λ r. ⌜ r ≡ length (writtenRow compression (planeRow weight (now (line .entry)) 0 n)) ⌝ }
-{
-    if compression == 0 {
-        return n;
-    }
-    let mut row = [0u8; 8192];
-    packed_row_len(line, weight, n, &mut row[0..n])
-}
-
-// The length of a scan line as it is written.
-fn line_len(compression: u8, n: usize, line: &[u8], planes: usize) -> usize
-    requires { ⌜ (n ≤ 8192) × (planes ≤ 8) ⌝ }
-    ensures is { λ r. ⌜ r ≡ length (lineRows compression n (now (line .entry)) 1 planes) ⌝ }
-    ensures short { λ r. ⌜ r ≤ 66048 ⌝ }
-{
-    let mut total = 0;
-    let mut weight = 1;
-    let mut k = 0;
-    while k < planes {
-        total = total + row_len(compression, line, weight, n);
-        weight = weight * 2;
-        k += 1;
-    }
-    total
-}
-
-// Packs a row to a place of out.
-fn pack_at(row: &[u8], out: &mut [u8], at: usize)
-    requires { ⌜ at + length (packed (now row)) ≤ length (now out) ⌝ }
-    ensures { λ _. ⌜ now (out .exit) ≡ put (now (out .entry)) at (packed (now (row .entry))) ⌝ }
-{
-    pack::pack_into(row, &mut out[at..]);
-}
-
-// Writes a plane row that is packed, and tells its length; the row is made in a buffer of its length.
-fn put_packed_row(
-    line: &[u8],
-    weight: usize,
-    n: usize,
-    row: &mut [u8],
-    out: &mut [u8],
-    at: usize,
-) -> usize
-    requires { ⌜ (0 < weight) × (n ≤ 8192) × (length (now row) ≡ n) × (at + length (packed (planeRow weight (now line) 0 n)) ≤ length (now out)) ⌝ }
-    ensures is { λ r. ⌜ r ≡ length (packed (planeRow weight (now (line .entry)) 0 n)) ⌝ }
-    ensures bytes { λ _. ⌜ now (out .exit) ≡ put (now (out .entry)) at (packed (planeRow weight (now (line .entry)) 0 n)) ⌝ }
-{
-    plane_row(line, weight, n, row, 0);
-    let count = pack::packed_len(row);
-    pack_at(row, out, at);
-    count
-}
-
-// Writes a plane row, and tells its length.
-fn put_row(
-    compression: u8,
-    line: &[u8],
-    weight: usize,
-    n: usize,
-    out: &mut [u8],
-    at: usize,
-) -> usize
-    requires { ⌜ (0 < weight) × (n ≤ 8192) × (at + length (writtenRow compression (planeRow weight (now line) 0 n)) ≤ length (now out)) ⌝ }
-    ensures is { λ r. ⌜ r ≡ length (writtenRow compression (planeRow weight (now (line .entry)) 0 n)) ⌝ }
-    ensures bytes { λ _. ⌜ now (out .exit) ≡ put (now (out .entry)) at (writtenRow compression (planeRow weight (now (line .entry)) 0 n)) ⌝ }
-{
-    if compression == 0 {
-        plane_row(line, weight, n, out, at);
-        return n;
-    }
-    let mut row = [0u8; 8192];
-    put_packed_row(line, weight, n, &mut row[0..n], out, at)
-}
-
 // The bytes of a chunk's header.
 fn head_bytes(name: usize, size: usize) -> [u8; 8]
     requires { ⌜ (name < 4294967296) × (size < 4294967296) ⌝ }
@@ -236,72 +111,6 @@ fn unsigned(x: i16) -> u16
         return 65535 - (m as u16);
     }
     x as u16
-}
-
-// Writes a scan line, and tells where it ends.
-fn put_line(
-    compression: u8,
-    n: usize,
-    line: &[u8],
-    planes: usize,
-    out: &mut [u8],
-    at: usize,
-) -> usize
-    requires { ⌜ (n ≤ 8192) × (planes ≤ 8) × Room (lineRows compression n (now line) 1 planes) (now out) at ⌝ }
-    ensures ends { λ r. ⌜ r ≡ at + length (lineRows compression n (now (line .entry)) 1 planes) ⌝ }
-    ensures bytes { λ _. ⌜ now (out .exit) ≡ put (now (out .entry)) at (lineRows compression n (now (line .entry)) 1 planes) ⌝ }
-{
-    let mut q = at;
-    let mut weight = 1;
-    let mut k = 0;
-    while k < planes {
-        q = q + put_row(compression, line, weight, n, out, q);
-        weight = weight * 2;
-        k += 1;
-    }
-    q
-}
-
-// The length of BODY.
-fn body_len(b: BitmapHeader, frame: &[u8]) -> usize
-    requires { ⌜ (b .planes ≤ 8) × (length (now frame) ≡ b .h * b .w) ⌝ }
-    ensures is { λ r. ⌜ r ≡ length (bodyBytes b (now (frame .entry))) ⌝ }
-    ensures short { λ r. ⌜ r < 4503599627370496 ⌝ }
-{
-    let w = b.w as usize;
-    let h = b.h as usize;
-    let n = 2 * ((w + 15) / 16);
-    let mut total = 0;
-    let mut at = 0;
-    let mut y = 0;
-    while y < h {
-        let end = at + w;
-        total = total + line_len(b.compression, n, &frame[at..end], b.planes as usize);
-        at = end;
-        y += 1;
-    }
-    total
-}
-
-// Writes BODY's data, and tells where they end.
-fn put_body(b: BitmapHeader, frame: &[u8], out: &mut [u8], place: usize) -> usize
-    requires { ⌜ (b .planes ≤ 8) × (length (now frame) ≡ b .h * b .w) × Room (bodyBytes b (now frame)) (now out) place ⌝ }
-    ensures ends { λ r. ⌜ r ≡ place + length (bodyBytes b (now (frame .entry))) ⌝ }
-    ensures bytes { λ _. ⌜ now (out .exit) ≡ put (now (out .entry)) place (bodyBytes b (now (frame .entry))) ⌝ }
-{
-    let w = b.w as usize;
-    let h = b.h as usize;
-    let n = 2 * ((w + 15) / 16);
-    let mut q = place;
-    let mut at = 0;
-    let mut y = 0;
-    while y < h {
-        let end = at + w;
-        q = put_line(b.compression, n, &frame[at..end], b.planes as usize, out, q);
-        at = end;
-        y += 1;
-    }
-    q
 }
 
 fn high(v: u16) -> u8
