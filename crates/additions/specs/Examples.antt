@@ -14,7 +14,8 @@ use Rattle.grammar.specs.Words.{Bytes}
 use Rattle.grammar.specs.Names.{both-true}
 use Rattle.ilbm.specs.Contents.{FORM, LIST, PROP, ILBM, BMHD, shared, absent, lastOwn, lastShared, propAmong, propertyOf, bodiesIn, contentsFrom}
 use Rattle.ilbm.specs.Pictures.{headerIn, wrongSize, headerFault, pictureFault, Viewed, viewed, pickContent, viewOf}
-use Rattle.additions.specs.Additions.{here, past, into, Addition, chunk, trailing, noPicture, propTypes, insert, placeOf, around, growAll}
+use Rattle.ilbm.specs.Ignored.{noPicture}
+use Rattle.additions.specs.Additions.{here, past, into, Addition, chunk, trailing, propTypes, insert, placeOf, around, growAll}
 use Rattle.additions.specs.Additions.{MayAddAll, fileAfter, movedBy, headersFrom, addedHeaders, renamed, lowest}
 use Rattle.additions.specs.Statement.{Unchanged, AllRefused}
 use Rattle.additions.specs.Demand3.{demand3}
