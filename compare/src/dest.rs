@@ -46,7 +46,8 @@ fn any_destination(random: &mut Random) -> Destination {
     }
 }
 
-fn destination(told: &second::Destination) -> Destination {
+/// The second reader's fields in the library's type.
+pub fn destination(told: &second::Destination) -> Destination {
     Destination {
         depth: told.depth,
         pad1: told.pad1,

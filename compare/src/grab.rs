@@ -29,8 +29,11 @@ fn compare(subject: &Subject, random: &mut Random, tally: &mut Tally) -> Outcome
         );
         tally.add(NAME, told.answer);
         let bound = florinhado::grab(asked.file, asked.picture);
-        asked.compare(told, value, bound, |wanted| {
-            property(&wanted.grab, |grab| HotSpot { x: grab.x, y: grab.y })
-        })
+        asked.compare(told, value, bound, |wanted| property(&wanted.grab, hot_spot))
     })
+}
+
+/// The second reader's fields in the library's type.
+pub fn hot_spot(told: &second::Grab) -> HotSpot {
+    HotSpot { x: told.x, y: told.y }
 }

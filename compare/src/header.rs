@@ -65,7 +65,8 @@ fn any_header(random: &mut Random) -> Header {
     }
 }
 
-fn header(told: &second::Header) -> Header {
+/// The second reader's fields in the library's type.
+pub fn header(told: &second::Header) -> Header {
     Header {
         width: told.width,
         height: told.height,

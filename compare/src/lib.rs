@@ -1,9 +1,15 @@
 //! The library beside the second reader.
 
+pub mod additions;
+mod answers;
+mod asked;
 mod borrowed;
 mod calls;
+mod census;
+mod dump;
 pub mod fixed;
 pub mod large;
+mod later;
 mod property;
 mod subject;
 mod tally;
@@ -24,6 +30,8 @@ mod sprite;
 mod view_mode;
 
 pub use calls::{Call, CALLS};
+pub use census::Census;
+pub use dump::dump;
 pub use subject::Subject;
 pub use tally::Tally;
 

@@ -3,7 +3,7 @@
 //! first difference.
 
 use compare::fixed::{examples, variations};
-use compare::{Subject, Tally};
+use compare::{dump, Subject, Tally};
 use second::generate;
 use second::random::Random;
 use std::process::ExitCode;
@@ -11,9 +11,6 @@ use std::time::Instant;
 
 const SEED: u64 = 1985;
 const FILES: u64 = 120_000;
-
-/// At most so many bytes of a file are printed.
-const PRINTED: usize = 65_536;
 
 fn main() -> ExitCode {
     let words: Vec<u64> = std::env::args().skip(1).map(|word| word.parse().expect("a number")).collect();
@@ -66,16 +63,4 @@ fn compare_generated(tally: &mut Tally, seed: u64, files: u64) -> Result<(), Str
 fn compare_file(what: &str, random: &mut Random, file: &[u8], tally: &mut Tally) -> Result<(), String> {
     let compared = Subject::new(random, file).compare(random, tally);
     compared.map_err(|text| format!("{what}: {text}\n{}", dump(file)))
-}
-
-/// The bytes in hex with their places, 16 a line.
-fn dump(file: &[u8]) -> String {
-    let mut text = format!("{} bytes\n", file.len());
-    for (line, bytes) in file[..file.len().min(PRINTED)].chunks(16).enumerate() {
-        let hex: Vec<String> = bytes.iter().map(|byte| format!("{byte:02x}")).collect();
-        let shown = |byte: &u8| if (0x20..0x7f).contains(byte) { *byte as char } else { '.' };
-        let plain: String = bytes.iter().map(shown).collect();
-        text += &format!("{:08x}  {:47}  {plain}\n", line * 16, hex.join(" "));
-    }
-    text
 }

@@ -1,11 +1,11 @@
 -- 01 "Chunks a later writer may add": what may be added where, and the file with it.
 use Prim.Native.Nat.{ℕ, _+_, _%_, _≤_}
 use mathlib.Core.Path.{_≡_}
-use mathlib.Core.Bool.{Bool, true, false, not}
+use mathlib.Core.Bool.{true, false}
 use mathlib.Core.List.{List, [], _∷_, _++_}
 use lib.Dec.{leb, eqb}
 use lib.ListN.{length, take, drop}
-use Rattle.name.specs.Name.{both, either, pick, kindOf}
+use Rattle.name.specs.Name.{pick, kindOf}
 use Rattle.name.specs.declared.Kind.{Kind}
 use Rattle.name.specs.declared.Kind.the-variants.{FORM, LIST, CAT, PROP, FILLER, LOCAL}
 use Rattle.chunk.specs.declared.Position.{Position}
@@ -13,18 +13,8 @@ use Rattle.chunk.specs.declared.Position.the-variants.{Outermost, InForm, InPro
 use Rattle.chunk.specs.Chunks.{Chunks, none, leaf, group, Chunk, aLeaf, aGroup, before, bytes, putWord, word}
 use Rattle.chunk.specs.Rules.{inside, after, groupType}
 use Rattle.grammar.specs.Grammar.{chunkName, member, seenAfter, Members, height}
-use Rattle.ilbm.specs.Contents.{ILBM, BMHD, CMAP, GRAB, DEST, SPRT, CAMG, BODY}
-
--- "named other than the six properties and BODY"
-abbrev pub foreign : ℕ → Bool
-foreign n =
-    not (either (either (eqb n BMHD) (either (eqb n CMAP) (eqb n GRAB))) (either (either (eqb n DEST) (eqb n SPRT)) (either (eqb n CAMG) (eqb n BODY))))
-
--- there is no FORM ILBM among these chunks, at any depth
-unfoldable pub noPicture : Chunks → Bool
-noPicture none = true
-noPicture (leaf n d p F) = noPicture F
-noPicture (group n t G F) = both (not (both (eqb n 0x464F524D) (eqb t ILBM))) (both (noPicture G) (noPicture F))
+use Rattle.ilbm.specs.Contents.{ILBM}
+use Rattle.ilbm.specs.Ignored.{foreign, noPicture}
 
 -- the types of the PROPs directly among these chunks
 unfoldable pub propTypes : Chunks → List ℕ

@@ -8,13 +8,13 @@ use Rattle.chunk.specs.declared.Position.the-variants.{Outermost}
 use Rattle.chunk.specs.Chunks.{Chunks, none, group, Chunk, aLeaf, aGroup, before}
 use Rattle.grammar.specs.Grammar.{ChunkFile}
 use Rattle.ilbm.specs.Contents.{Property, own, shared, absent, Content, contentsOf}
+use Rattle.ilbm.specs.Moved.{movedProperty, movedContent, mapContents, contents-carried}
 use Rattle.additions.specs.Additions.{into, Addition, chunk, trailing, insert, placeOf, bytesOf, added, addedAt, treeWith, fileWith, MayAdd}
 use Rattle.additions.specs.Additions.{treeAfter, fileAfter, MayAddAll, moved, movedBy}
-use Rattle.additions.specs.Statement.{movedProperty, movedContent}
 use Rattle.additions.specs.Bytes.{may-at}
 use Rattle.additions.specs.Files.{outermost-group, file-with}
 use Rattle.additions.specs.Ignored.{may-ignored}
-use Rattle.additions.specs.Answers.{mapContents, carries-before, contents-carried, contents-inserted}
+use Rattle.additions.specs.Answers.{groups-before, contents-inserted}
 
 property-still : (move : ℕ → ℕ) → ((p : ℕ) → move p ≡ p) → (q : Property) → movedProperty move q ≡ q
 property-still move e (own d) = refl
@@ -65,7 +65,7 @@ contents-with (chunk i X) (aGroup n t G) f R g h =
     contents-inserted (into i) X F (may-ignored (into i) X F Outermost [] h) (may-at (into i) X F Outermost [] h) 0 [] [] (λ name k. refl)
 contents-with (trailing k xs) c f R g h =
     let len : ℕ = length (bytesOf c) in
-    contents-carried (before c none) _ 0 0 [] [] (carries-before (len + k) (length xs) 0 len (omega arith)) (λ name k. refl)
+    contents-carried _ (before c none) 0 0 [] [] (groups-before (before c none) (len + k) (length xs) 0 (omega arith)) (λ name k. refl)
 
 pub file-after : (adds : List Addition) (c : Chunk) (f R : List ℕ) → ChunkFile f c R → MayAddAll adds c f
     → (R′ : List ℕ) × ChunkFile (fileAfter adds c f) (treeAfter adds c) R′

@@ -13,8 +13,8 @@ use Rattle.ilbm.specs.Contents.{Property, own, shared, absent, Content, content
 use Rattle.ilbm.specs.Pictures.{dataOf, counts, headerIn, wrongSize, pictureFault, Viewed, viewed, unseen, judged, pickContent, viewIn, viewOf}
 use Rattle.ilbm.specs.Pictures.{pictureAnswer, paletteFrom, paletteBytes}
 use Rattle.ilbm.specs.Rows.{Read, onBody, askRows, lineRead, frameRead}
-use Rattle.additions.specs.Statement.{movedProperty, movedContent, movedView, SameAnswers}
-use Rattle.additions.specs.Answers.{mapContents}
+use Rattle.ilbm.specs.Moved.{movedProperty, movedContent, mapContents}
+use Rattle.additions.specs.Statement.{movedView, SameAnswers}
 
 module _ (move : ℕ → ℕ) where
   counts-moved : (q : Property) → counts (movedProperty move q) ≡ counts q

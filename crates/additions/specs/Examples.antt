@@ -14,19 +14,12 @@ use Rattle.grammar.specs.Words.{Bytes}
 use Rattle.grammar.specs.Names.{both-true}
 use Rattle.ilbm.specs.Contents.{FORM, LIST, PROP, ILBM, BMHD, shared, absent, lastOwn, lastShared, propAmong, propertyOf, bodiesIn, contentsFrom}
 use Rattle.ilbm.specs.Pictures.{headerIn, wrongSize, headerFault, pictureFault, Viewed, viewed, pickContent, viewOf}
-use Rattle.additions.specs.Additions.{here, past, into, Addition, chunk, trailing, noPicture, propTypes, insert, placeOf, around, growAll}
+use Rattle.ilbm.specs.Ignored.{noPicture}
+use Rattle.additions.specs.Additions.{here, past, into, Addition, chunk, trailing, propTypes, insert, placeOf, around, growAll}
 use Rattle.additions.specs.Additions.{MayAddAll, fileAfter, movedBy, headersFrom, addedHeaders, renamed, lowest}
 use Rattle.additions.specs.Statement.{Unchanged, AllRefused}
+use Rattle.additions.specs.Boundaries.{CAT, JJJJ, AAAA}
 use Rattle.additions.specs.Demand3.{demand3}
-
-abbrev CAT : ℕ
-CAT = 0x43415420
-
-abbrev JJJJ : ℕ
-JJJJ = 0x4A4A4A4A
-
-abbrev AAAA : ℕ
-AAAA = 0x41414141
 
 abbrev XXXX : ℕ
 XXXX = 0x58585858

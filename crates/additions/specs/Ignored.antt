@@ -1,13 +1,13 @@
 -- What may be added is nothing that a picture looks at: a leaf of a foreign name, a group that is no PROP ILBM and with no picture in it.
--- So the last property, the BODYs and the shared PROP's members stay.
+-- So the last property, the BODYs and the shared PROP's members stay, by the laws of `ilbm` at the boundary and by induction up to it.
 use Prim.Native.Nat.{ℕ}
 use mathlib.Core.Path.{_≡_, refl, sym, ap, subst}
 use mathlib.Core.Bool.{Bool, true, false}
 use mathlib.Core.List.{List, [], _∷_, _++_}
 use mathlib.Core.Option.{Option, some}
 use lib.Dec.{eqb}
-use borrow.Author.Tests.{eqb-true, not-true}
-use Rattle.name.specs.Name.{either, pick, kindOf}
+use borrow.Author.Tests.{eqb-true}
+use Rattle.name.specs.Name.{pick, kindOf}
 use Rattle.name.specs.declared.Kind.{Kind}
 use Rattle.name.specs.declared.Kind.the-variants.{FORM, LIST, CAT, PROP, FILLER, LOCAL}
 use Rattle.chunk.specs.declared.Position.{Position}
@@ -15,43 +15,10 @@ use Rattle.chunk.specs.declared.Position.the-variants.{Outermost, InForm, InPro
 use Rattle.chunk.specs.Chunks.{Chunks, none, leaf, group, Chunk, aLeaf, aGroup}
 use Rattle.chunk.specs.Rules.{isGroup, inProp, inside}
 use Rattle.grammar.specs.Grammar.{Members}
-use Rattle.ilbm.specs.Contents.{ILBM, BMHD, CMAP, GRAB, DEST, SPRT, CAMG, BODY, lastOwn, lastShared, bodiesIn}
-use Rattle.additions.specs.Additions.{foreign, noPicture, LocalMay, LeafMay, GroupMay, PropMay, Boundary, here, past, into, May, insert}
-use Rattle.additions.specs.Insert.{no, either-false}
-
--- a name that no foreign chunk has
-abbrev pub Known : ℕ → Type 0
-Known name = (n : ℕ) → foreign n ≡ true → eqb n name ≡ false
-
--- the seven tests of `foreign`, each failed
-abbrev pub Seven : (ℕ → Type 0) → Type 0
-Seven P = P BMHD × P CMAP × P GRAB × P DEST × P SPRT × P CAMG × P BODY
-
-foreign-parts : (n : ℕ) → foreign n ≡ true → Seven (λ name. eqb n name ≡ false)
-foreign-parts n h =
-    let all = either-false _ _ (not-true _ h) in
-    let left = either-false (eqb n BMHD) _ (all .0) in
-    let two = either-false (eqb n CMAP) (eqb n GRAB) (left .1) in
-    let right = either-false (either (eqb n DEST) (eqb n SPRT)) _ (all .1) in
-    let four = either-false (eqb n DEST) (eqb n SPRT) (right .0) in
-    let six = either-false (eqb n CAMG) (eqb n BODY) (right .1) in
-    (left .0, two .0, two .1, four .0, four .1, six .0, six .1)
-
-pub known : Seven Known
-known = (
-  λ n h. foreign-parts n h .0,
-  λ n h. foreign-parts n h .1,
-  λ n h. foreign-parts n h .2,
-  λ n h. foreign-parts n h .3,
-  λ n h. foreign-parts n h .4,
-  λ n h. foreign-parts n h .5,
-  λ n h. foreign-parts n h .6,
-)
-
--- no picture looks at this chunk
-abbrev pub Ignored : Chunk → Type 0
-Ignored (aLeaf n d p) = foreign n ≡ true
-Ignored (aGroup n t G) = (eqb t ILBM ≡ false) × (noPicture G ≡ true)
+use Rattle.ilbm.specs.Contents.{ILBM, BODY, lastOwn, lastShared, bodiesIn}
+use Rattle.ilbm.specs.Ignored.{foreign, noPicture, Ignored, Known, own-past, shared-past, bodies-past}
+use Rattle.additions.specs.Additions.{LocalMay, LeafMay, GroupMay, PropMay, Boundary, here, past, into, May, insert}
+use Rattle.additions.specs.Insert.{no}
 
 filler-foreign : (n : ℕ) → kindOf n ≡ FILLER → foreign n ≡ true
 unfolding kindOf
@@ -126,8 +93,7 @@ may-ignored (into i) X (group n t G F) w seen h = may-ignored i X G _ [] h
 pub last-own : (name : ℕ) → Known name → (i : Boundary) (X : Chunk) (F : Chunks) → Ignored X → (so-far : Option (List ℕ))
     → lastOwn name so-far (insert i X F) ≡ lastOwn name so-far F
 unfolding lastOwn insert
-last-own name k here (aLeaf n d p) F g o = rw (known .6 n g, k n g)
-last-own name k here (aGroup n t G) F g o = refl
+last-own name k here X F g o = own-past name k X F g o
 last-own name k (past i) X none g o = refl
 last-own name k (past i) X (leaf n d p F) g o =
     ap (λ (r : Option (List ℕ)). pick (eqb n BODY) o r) (last-own name k i X F g (pick (eqb n name) (some d) o))
@@ -139,8 +105,7 @@ last-own name k (into i) X (group n t G F) g o = refl
 pub last-shared : (name : ℕ) → Known name → (i : Boundary) (X : Chunk) (F : Chunks) → Ignored X → (so-far : Option (List ℕ))
     → lastShared name so-far (insert i X F) ≡ lastShared name so-far F
 unfolding lastShared insert
-last-shared name k here (aLeaf n d p) F g o = ap (λ (b : Bool). lastShared name (pick b (some d) o) F) (k n g)
-last-shared name k here (aGroup n t G) F g o = refl
+last-shared name k here X F g o = shared-past name k X F g o
 last-shared name k (past i) X none g o = refl
 last-shared name k (past i) X (leaf n d p F) g o = last-shared name k i X F g (pick (eqb n name) (some d) o)
 last-shared name k (past i) X (group n t G F) g o = last-shared name k i X F g o
@@ -150,8 +115,7 @@ last-shared name k (into i) X (group n t G F) g o = refl
 
 pub same-bodies : (i : Boundary) (X : Chunk) (F : Chunks) → Ignored X → bodiesIn (insert i X F) ≡ bodiesIn F
 unfolding bodiesIn insert
-same-bodies here (aLeaf n d p) F g = rw (known .6 n g)
-same-bodies here (aGroup n t G) F g = refl
+same-bodies here X F g = bodies-past X F g
 same-bodies (past i) X none g = refl
 same-bodies (past i) X (leaf n d p F) g = ap (λ (r : List (List ℕ)). pick (eqb n BODY) (d ∷ []) [] ++ r) (same-bodies i X F g)
 same-bodies (past i) X (group n t G F) g = same-bodies i X F g

@@ -15,14 +15,11 @@ use Rattle.chunk.specs.declared.Position.the-variants.{Outermost, InForm, InPro
 use Rattle.chunk.specs.Chunks.{Chunks, none, leaf, group, Chunk, aLeaf, aGroup}
 use Rattle.chunk.specs.Rules.{isGroup, allowed, inCat, inList, inside, after, groupType}
 use Rattle.grammar.specs.Grammar.{member, newProp, seenAfter, Members}
+use Rattle.ilbm.specs.Ignored.{either-false}
 use Rattle.additions.specs.Additions.{Boundary, here, past, into, propTypes, LocalMay, FillerMay, LeafMay, FormMay, PropMay, GroupMay, May, insert}
 
 pub no : {A : Type 0} → _≡_ {A = ℕ} 0 1 → A
 no e = absurd (omega arith)
-
-pub either-false : (a b : Bool) → either a b ≡ false → (a ≡ false) × (b ≡ false)
-either-false true b e = no cc
-either-false false b e = (refl, e)
 
 pub either-right : (a b : Bool) → b ≡ true → either a b ≡ true
 either-right true b e = refl

@@ -1,6 +1,7 @@
 pub mod Additions
 pub mod Statement
 pub mod Insert
+pub mod Boundaries
 pub mod Bytes
 pub mod Files
 pub mod Ignored

@@ -10,28 +10,10 @@ use Rattle.tree.specs.Judge.{found, readFile, checkOf}
 use Rattle.grammar.specs.Words.{Bytes}
 use Rattle.grammar.specs.Grammar.{member}
 use Rattle.ilbm.specs.declared.PictureAnswer.the-variants.{Refused as Picture-refused}
-use Rattle.ilbm.specs.Contents.{Property, own, shared, absent, Content}
+use Rattle.ilbm.specs.Moved.{movedContent}
 use Rattle.ilbm.specs.Pictures.{Viewed, viewed, unseen, viewOf, pictureOf, pictureAnswer, paletteOf}
 use Rattle.ilbm.specs.Rows.{fault, lineOf, frameOf}
 use Rattle.additions.specs.Additions.{Addition, treeAfter, fileAfter, MayAddAll, movedBy, addedHeaders, Renaming, renamed, lowest}
-
--- a property as before, the place of its PROP moved
-abbrev pub movedProperty : (ℕ → ℕ) → Property → Property
-movedProperty f (own d) = own d
-movedProperty f (shared p d) = shared (f p) d
-movedProperty f absent = absent
-
-abbrev pub movedContent : (ℕ → ℕ) → Content → Content
-movedContent f c =
-    record {
-      bmhd = movedProperty f (c .bmhd);
-      cmap = movedProperty f (c .cmap);
-      grab = movedProperty f (c .grab);
-      dest = movedProperty f (c .dest);
-      sprt = movedProperty f (c .sprt);
-      camg = movedProperty f (c .camg);
-      bodies = c .bodies;
-    }
 
 -- a picture as before, the places of its shared PROP moved; a refusal as before, with its place
 abbrev pub movedView : (ℕ → ℕ) → Viewed → Viewed

@@ -1,3 +1,5 @@
 pub mod Contents
+pub mod Ignored
+pub mod Moved
 pub mod Pictures
 pub mod Rows

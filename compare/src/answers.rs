@@ -1,0 +1,136 @@
+//! All that the calls on one picture tell, by the library and by the second reader.
+
+use crate::asked::Asked;
+use crate::borrowed::refused;
+use crate::dest::destination;
+use crate::grab::hot_spot;
+use crate::header::header;
+use crate::property::{origin, property};
+use florinhado::{Destination, Header, HotSpot, Origin, Property, Refused};
+
+/// A property with its origin, or the refusal.
+type Told<T> = Result<Property<T>, Refused>;
+
+/// What a call on rows tells, and the bytes in what was lent to it.
+type Written = (Result<usize, Refused>, Vec<u8>);
+
+#[derive(Clone, Debug, PartialEq)]
+pub struct Answers {
+    header: Told<Header>,
+    grab: Told<HotSpot>,
+    destination: Told<Destination>,
+    sprite: Told<u16>,
+    view_mode: Told<u32>,
+    /// The palette's bytes.
+    palette: Told<Vec<u8>>,
+    /// The next place, and the row.
+    lines: Vec<Written>,
+    /// How many bytes are left over, and the frame.
+    frames: Vec<Written>,
+}
+
+impl Answers {
+    pub fn of_library(file: &[u8], asked: &Asked) -> Answers {
+        let picture = asked.picture;
+        let line = |(start, row): &(usize, Vec<u8>)| {
+            let mut row = row.clone();
+            (florinhado::scan_line(file, picture, *start, &mut row), row)
+        };
+        let frame = |frame: &Vec<u8>| {
+            let mut frame = frame.clone();
+            (florinhado::frame(file, picture, &mut frame), frame)
+        };
+        let bytes = |told: Property<&[u8]>| Property { value: told.value.to_vec(), origin: told.origin };
+        Answers {
+            header: florinhado::header(file, picture),
+            grab: florinhado::grab(file, picture),
+            destination: florinhado::destination(file, picture),
+            sprite: florinhado::sprite(file, picture),
+            view_mode: florinhado::view_mode(file, picture),
+            palette: florinhado::palette(file, picture, &asked.default).map(bytes),
+            lines: asked.lines.iter().map(line).collect(),
+            frames: asked.frames.iter().map(frame).collect(),
+        }
+    }
+
+    pub fn of_second(file: &[u8], asked: &Asked) -> Answers {
+        let picture = asked.picture;
+        let told = second::properties(file, picture).map_err(refused);
+        let told = told.as_ref().map_err(|told| *told);
+        let line = |(start, row): &(usize, Vec<u8>)| {
+            let told = second::scan_line(file, picture, *start, row.len());
+            written(told.map(|line| (line.next, line.colours)), row)
+        };
+        let frame = |frame: &Vec<u8>| {
+            let told = second::frame(file, picture, frame.len());
+            written(told.map(|told| (told.leftover, told.colours)), frame)
+        };
+        let palette = second::palette(file, picture, &asked.default).map_err(refused);
+        Answers {
+            header: told
+                .map(|told| Property { value: header(&told.header), origin: origin(told.header_origin) }),
+            grab: told.map(|told| property(&told.grab, hot_spot)),
+            destination: told.map(|told| property(&told.destination, destination)),
+            sprite: told.map(|told| property(&told.precedence, |value| *value)),
+            view_mode: told.map(|told| property(&told.view_modes, |value| *value)),
+            palette: palette.and_then(|bytes| {
+                told.map(|told| Property { value: bytes.to_vec(), origin: origin(told.colour_map.origin) })
+            }),
+            lines: asked.lines.iter().map(line).collect(),
+            frames: asked.frames.iter().map(frame).collect(),
+        }
+    }
+
+    /// Every call refuses, and what was lent is as it was.
+    pub fn all_refused(refused: Refused, asked: &Asked) -> Answers {
+        let untouched = |lent: &Vec<u8>| (Err(refused), lent.clone());
+        Answers {
+            header: Err(refused),
+            grab: Err(refused),
+            destination: Err(refused),
+            sprite: Err(refused),
+            view_mode: Err(refused),
+            palette: Err(refused),
+            lines: asked.lines.iter().map(|(_, row)| untouched(row)).collect(),
+            frames: asked.frames.iter().map(untouched).collect(),
+        }
+    }
+
+    /// The same with the places of shared PROPs moved.
+    pub fn moved(self, place: &impl Fn(usize) -> usize) -> Answers {
+        Answers {
+            header: moved(self.header, place),
+            grab: moved(self.grab, place),
+            destination: moved(self.destination, place),
+            sprite: moved(self.sprite, place),
+            view_mode: moved(self.view_mode, place),
+            palette: moved(self.palette, place),
+            ..self
+        }
+    }
+
+    /// Whether the BMHD is that of a PROP.
+    pub fn is_shared(&self) -> bool {
+        self.header.is_ok_and(|told| matches!(told.origin, Origin::Shared(_)))
+    }
+
+    /// Whether a frame is shown.
+    pub fn is_shown(&self) -> bool {
+        self.frames.iter().any(|(told, _)| told.is_ok())
+    }
+}
+
+/// The second reader's result as it would stand in what was lent.
+fn written(told: Result<(usize, Vec<u8>), second::Refused>, lent: &[u8]) -> Written {
+    match told {
+        Ok((number, bytes)) => (Ok(number), bytes),
+        Err(told) => (Err(refused(told)), lent.to_vec()),
+    }
+}
+
+fn moved<T>(told: Told<T>, place: &impl Fn(usize) -> usize) -> Told<T> {
+    told.map(|told| match told.origin {
+        Origin::Shared(at) => Property { origin: Origin::Shared(place(at)), ..told },
+        _ => told,
+    })
+}
