@@ -1,4 +1,4 @@
-//! The chunk trees and FORM ILBM pictures of EA IFF 85, read by a proved library.
+//! The chunk trees and FORM ILBM pictures of EA IFF 85, read and written by a proved library.
 //!
 //! Every function takes any bytes and ends. It answers, or refuses with a
 //! number and a place; a refusal changes no buffer.
@@ -27,6 +27,7 @@ mod palette;
 mod pictures;
 mod properties;
 mod record;
+mod write;
 
 pub use answer::Refused;
 pub use check::{check, Accepted};
@@ -39,3 +40,4 @@ pub use pictures::count_pictures;
 pub use properties::{destination, grab, header, sprite, view_mode};
 pub use properties::{Destination, Header, HotSpot, Origin, Property};
 pub use record::{record, Kind, Record};
+pub use write::write;
