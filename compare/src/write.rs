@@ -71,7 +71,8 @@ fn call(given: &Header, input: &WriterInput, out: &mut [u8], length: &mut usize)
 
 /// Compares the writing of a picture and gives the answer.
 pub fn written(input: &WriterInput, random: &mut Random) -> Result<usize, String> {
-    let wanted = second::write_picture(&input.fields, &input.palette, &input.frame, input.room).map_err(refused);
+    let wanted =
+        second::write_picture(&input.fields, &input.palette, &input.frame, input.room).map_err(refused);
     let result = wanted.as_deref().unwrap_or(&[]);
     let given = header(&input.fields, random.byte());
     let [mut length] = numbers(random);

@@ -372,7 +372,16 @@ pub fn ilbm_line(
     next: &mut usize,
 ) -> usize {
     unsafe {
-        exported::ilbm_line(file.as_ptr(), file.len(), picture, start, row.as_mut_ptr(), row.len(), place, next)
+        exported::ilbm_line(
+            file.as_ptr(),
+            file.len(),
+            picture,
+            start,
+            row.as_mut_ptr(),
+            row.len(),
+            place,
+            next,
+        )
     }
 }
 
@@ -385,7 +394,15 @@ pub fn ilbm_frame(
     leftover: &mut usize,
 ) -> usize {
     unsafe {
-        exported::ilbm_frame(file.as_ptr(), file.len(), picture, frame.as_mut_ptr(), frame.len(), place, leftover)
+        exported::ilbm_frame(
+            file.as_ptr(),
+            file.len(),
+            picture,
+            frame.as_mut_ptr(),
+            frame.len(),
+            place,
+            leftover,
+        )
     }
 }
 

@@ -115,13 +115,8 @@ fn widest(height: u16, compression: u8, noise: bool) -> WriterInput {
 
 /// Writes the largest pictures; each is known to be written, or to be 35.
 fn write_pictures() -> Result<(), String> {
-    let cases = [
-        (255, 0, true, 0),
-        (256, 0, true, 35),
-        (253, 1, true, 0),
-        (255, 1, true, 35),
-        (256, 1, false, 0),
-    ];
+    let cases =
+        [(255, 0, true, 0), (256, 0, true, 35), (253, 1, true, 0), (255, 1, true, 35), (256, 1, false, 0)];
     for (height, compression, noise, known) in cases {
         let start = Instant::now();
         let name = format!("picture of 65,535 by {height}, compression {compression}, noise {noise}");
