@@ -1,6 +1,6 @@
 /*
- * florinhado: the chunk trees and FORM ILBM pictures of EA IFF 85, read by a
- * proved library.
+ * florinhado: the chunk trees and FORM ILBM pictures of EA IFF 85, read and
+ * written by a proved library.
  *
  * Link with target/staticlib/libflorinhado.a (x86-64 Linux); the calls need
  * nothing else, allocate nothing and keep no pointer.
@@ -267,6 +267,42 @@ size_t ilbm_frame(const uint8_t *file, size_t file_length, size_t picture,
  */
 size_t byterun_pack(const uint8_t *row, size_t row_length, uint8_t *out,
                     size_t out_length, size_t *length);
+
+/*
+ * Writes one picture as a file: a FORM ILBM with BMHD, CMAP (unless the palette
+ * is empty) and BODY. Refusals, in this order, none with a place:
+ *
+ *   33  w or h 0, planes not 1 to 8, masking 1 or over 3, compression over 1, a
+ *       palette that is no multiple of 3 or over 768 bytes, or a frame that
+ *       hasn't w times h bytes
+ *   34  a colour number of 2 to the plane count or more
+ *   35  the file would be over 16,777,216 bytes
+ *   32  the file is longer than the buffer
+ *
+ * 824 + h * planes * r bytes are always enough for the file, with r = 2 *
+ * ((w + 15) / 16), and r + (r + 127) / 128 in the place of r if it is packed;
+ * one more if the BODY's size is odd.
+ *
+ *   w, h                      pixels in a row, and rows
+ *   x, y                      the picture's place on its page
+ *   planes                    1 to 8
+ *   masking                   0 none, 2 a transparent colour, 3 lasso
+ *   compression               0 none, 1 ByteRun1
+ *   transparent               the colour number of masking 2 and 3
+ *   x_aspect, y_aspect        the shape of a pixel, width beside height
+ *   page_width, page_height   the page
+ *   palette, palette_length   three bytes a colour, red, green, blue
+ *   frame, frame_length       the colour numbers, a byte a pixel, line by line
+ *   out, out_length           the buffer
+ *   length                    out: the length of the file
+ */
+size_t ilbm_write(uint16_t w, uint16_t h, int16_t x, int16_t y, uint8_t planes,
+                  uint8_t masking, uint8_t compression, uint16_t transparent,
+                  uint8_t x_aspect, uint8_t y_aspect, int16_t page_width,
+                  int16_t page_height, const uint8_t *palette,
+                  size_t palette_length, const uint8_t *frame,
+                  size_t frame_length, uint8_t *out, size_t out_length,
+                  size_t *length);
 
 #ifdef __cplusplus
 }

@@ -1,4 +1,4 @@
-"""The chunk trees and FORM ILBM pictures of EA IFF 85, read by a proved library.
+"""The chunk trees and FORM ILBM pictures of EA IFF 85, read and written by a proved library.
 
 Run build.sh once; it makes the shared object that is loaded here. The
 environment's FLORINHADO may name another one.
@@ -15,6 +15,14 @@ Traceback (most recent call last):
 florinhado.Refused: refusal 21 at 0: no BMHD counts
 >>> pack(bytes(4)).hex()
 'fd00'
+>>> fields = Header(width=3, height=1, planes=2, compression=1)
+>>> file = write(fields, palette=b"", frame=[1, 2, 3])
+>>> len(file), list(frame(file, 0)), header(file, 0).value == fields
+(54, [1, 2, 3], True)
+>>> write(fields, b"", [1, 2, 4])
+Traceback (most recent call last):
+    ...
+florinhado.Refused: refusal 34 at 0: a colour number with more bits than planes
 """
 
 import ctypes
@@ -50,6 +58,9 @@ MEANINGS = {
     29: "start place beyond the BODY's end",
     31: "a row to pack has 1 to 8,192 bytes",
     32: "result longer than the buffer",
+    33: "header field, palette or frame that can't be written",
+    34: "a colour number with more bits than planes",
+    35: "result over 16,777,216 bytes",
 }
 
 
@@ -113,19 +124,19 @@ class Property(NamedTuple):
 class Header(NamedTuple):
     """The fields of BMHD."""
 
-    width: int
-    height: int
-    x: int
-    y: int
-    planes: int
-    masking: int
-    compression: int
-    pad1: int
-    transparent: int
-    x_aspect: int
-    y_aspect: int
-    page_width: int
-    page_height: int
+    width: int = 0
+    height: int = 0
+    x: int = 0
+    y: int = 0
+    planes: int = 0
+    masking: int = 0
+    compression: int = 0
+    pad1: int = 0
+    transparent: int = 0
+    x_aspect: int = 0
+    y_aspect: int = 0
+    page_width: int = 0
+    page_height: int = 0
 
 
 class HotSpot(NamedTuple):
@@ -198,6 +209,8 @@ _ilbm_palette = _declare("ilbm_palette", _PICTURE, _ORIGIN + [_SIZE] * 2)
 _ilbm_line = _declare("ilbm_line", _PICTURE + [_SIZE] + _BYTES, [_SIZE])
 _ilbm_frame = _declare("ilbm_frame", _PICTURE + _BYTES, [_SIZE])
 _byterun_pack = _declare("byterun_pack", _BYTES * 2, [_SIZE], placed=False)
+_FIELDS = _HEADER[:7] + _HEADER[8:]  # without pad1
+_ilbm_write = _declare("ilbm_write", _FIELDS + _BYTES * 3, [_SIZE], placed=False)
 
 
 def check(file):
@@ -298,4 +311,16 @@ def pack(row):
     row = bytes(row)
     room = ctypes.create_string_buffer(len(row) + (len(row) + 127) // 128 or 1)
     (length,) = _byterun_pack(row, len(row), room, len(room))
+    return room.raw[:length]
+
+
+def write(fields, palette, frame):
+    """A file with one picture of these fields (pad1 is not looked at), palette and
+    colour numbers, line by line; Refused with 33, 34 or 35."""
+    palette, frame = bytes(palette), bytes(frame)
+    row = (fields.width + 15) // 16 * 2
+    body = fields.height * fields.planes * (row + (row + 127) // 128)
+    room = ctypes.create_string_buffer(min(825 + body, 16777216))
+    numbers = fields[:7] + fields[8:]
+    (length,) = _ilbm_write(*numbers, palette, len(palette), frame, len(frame), room, len(room))
     return room.raw[:length]

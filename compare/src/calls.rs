@@ -1,7 +1,7 @@
 //! The calls that are compared.
 
 use crate::{check, copy, data, pictures, record, Outcome, Subject, Tally};
-use crate::{dest, frame, grab, header, line, pack, palette, sprite, view_mode};
+use crate::{dest, frame, grab, header, line, pack, palette, sprite, view_mode, write};
 use second::random::Random;
 
 /// One exported call.
@@ -31,4 +31,5 @@ pub const CALLS: &[Call] = &[
     line::CALL,
     frame::CALL,
     pack::CALL,
+    write::CALL,
 ];

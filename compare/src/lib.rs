@@ -28,6 +28,7 @@ mod pictures;
 mod record;
 mod sprite;
 mod view_mode;
+pub mod write;
 
 pub use calls::{Call, CALLS};
 pub use census::Census;

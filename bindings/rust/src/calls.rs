@@ -157,6 +157,28 @@ mod exported {
             out_length: usize,
             length: &mut usize,
         ) -> usize;
+
+        pub fn ilbm_write(
+            w: u16,
+            h: u16,
+            x: i16,
+            y: i16,
+            planes: u8,
+            masking: u8,
+            compression: u8,
+            transparent: u16,
+            x_aspect: u8,
+            y_aspect: u8,
+            page_width: i16,
+            page_height: i16,
+            palette: *const u8,
+            palette_length: usize,
+            frame: *const u8,
+            frame_length: usize,
+            out: *mut u8,
+            out_length: usize,
+            length: &mut usize,
+        ) -> usize;
     }
 }
 
@@ -350,7 +372,16 @@ pub fn ilbm_line(
     next: &mut usize,
 ) -> usize {
     unsafe {
-        exported::ilbm_line(file.as_ptr(), file.len(), picture, start, row.as_mut_ptr(), row.len(), place, next)
+        exported::ilbm_line(
+            file.as_ptr(),
+            file.len(),
+            picture,
+            start,
+            row.as_mut_ptr(),
+            row.len(),
+            place,
+            next,
+        )
     }
 }
 
@@ -363,11 +394,64 @@ pub fn ilbm_frame(
     leftover: &mut usize,
 ) -> usize {
     unsafe {
-        exported::ilbm_frame(file.as_ptr(), file.len(), picture, frame.as_mut_ptr(), frame.len(), place, leftover)
+        exported::ilbm_frame(
+            file.as_ptr(),
+            file.len(),
+            picture,
+            frame.as_mut_ptr(),
+            frame.len(),
+            place,
+            leftover,
+        )
     }
 }
 
 /// Packs a row: 0, or 31 or 32.
 pub fn byterun_pack(row: &[u8], out: &mut [u8], length: &mut usize) -> usize {
     unsafe { exported::byterun_pack(row.as_ptr(), row.len(), out.as_mut_ptr(), out.len(), length) }
+}
+
+/// Writes one picture as a file: 0, or 33, 34, 35 or 32.
+#[allow(clippy::too_many_arguments)]
+pub fn ilbm_write(
+    w: u16,
+    h: u16,
+    x: i16,
+    y: i16,
+    planes: u8,
+    masking: u8,
+    compression: u8,
+    transparent: u16,
+    x_aspect: u8,
+    y_aspect: u8,
+    page_width: i16,
+    page_height: i16,
+    palette: &[u8],
+    frame: &[u8],
+    out: &mut [u8],
+    length: &mut usize,
+) -> usize {
+    unsafe {
+        exported::ilbm_write(
+            w,
+            h,
+            x,
+            y,
+            planes,
+            masking,
+            compression,
+            transparent,
+            x_aspect,
+            y_aspect,
+            page_width,
+            page_height,
+            palette.as_ptr(),
+            palette.len(),
+            frame.as_ptr(),
+            frame.len(),
+            out.as_mut_ptr(),
+            out.len(),
+            length,
+        )
+    }
 }

@@ -1,4 +1,4 @@
-//! The chunk trees and FORM ILBM pictures of EA IFF 85, read by a proved library.
+//! The chunk trees and FORM ILBM pictures of EA IFF 85, read and written by a proved library.
 //!
 //! Every function takes any bytes and ends. It answers, or refuses with a
 //! number and a place; a refusal changes no buffer.
@@ -22,20 +22,22 @@ mod check;
 mod copy;
 mod data;
 mod pack;
-mod rows;
 mod palette;
 mod pictures;
 mod properties;
 mod record;
+mod rows;
+mod write;
 
 pub use answer::Refused;
 pub use check::{check, Accepted};
 pub use copy::clean_copy;
 pub use data::data;
 pub use pack::pack;
-pub use rows::{frame, scan_line};
 pub use palette::palette;
 pub use pictures::count_pictures;
 pub use properties::{destination, grab, header, sprite, view_mode};
 pub use properties::{Destination, Header, HotSpot, Origin, Property};
 pub use record::{record, Kind, Record};
+pub use rows::{frame, scan_line};
+pub use write::write;

@@ -1,10 +1,13 @@
-//! `big [PROPS]`: the largest and deepest files through every call, on the
-//! main thread. `run_big.sh` runs it with a small stack.
+//! `big [PROPS]`: the largest and deepest files through every call, and the
+//! largest pictures written, on the main thread. `run_big.sh` runs it with a
+//! small stack.
 
 use compare::large::{accepted, filled_up, forms, group, leaves, nested, props, GROUPS, LEAVES, LEVELS};
+use compare::write::written;
 use compare::{Subject, Tally};
+use second::generate::WriterInput;
 use second::random::Random;
-use second::{Accepted, Refused, LONGEST_FILE};
+use second::{Accepted, Fields, Refused, LONGEST_FILE};
 use std::process::ExitCode;
 use std::time::Instant;
 
@@ -88,6 +91,45 @@ fn run(case: &Case) -> Result<(), String> {
     Subject::large(&mut random, &case.file).compare(&mut random, &mut Tally::default())
 }
 
+/// A picture of the greatest width and 256 colours, noise or one colour.
+fn widest(height: u16, compression: u8, noise: bool) -> WriterInput {
+    let mut random = Random::new(7);
+    let colour = |_| if noise { random.byte() } else { 200 };
+    let frame = (0..65_535 * usize::from(height)).map(colour).collect();
+    let fields = Fields {
+        width: 65_535,
+        height,
+        x: -1,
+        y: 1,
+        planes: 8,
+        masking: 2,
+        compression,
+        transparent_color: 255,
+        x_aspect: 1,
+        y_aspect: 1,
+        page_width: 320,
+        page_height: -200,
+    };
+    WriterInput { fields, palette: vec![9; 768], frame, room: LONGEST_FILE }
+}
+
+/// Writes the largest pictures; each is known to be written, or to be 35.
+fn write_pictures() -> Result<(), String> {
+    let cases =
+        [(255, 0, true, 0), (256, 0, true, 35), (253, 1, true, 0), (255, 1, true, 35), (256, 1, false, 0)];
+    for (height, compression, noise, known) in cases {
+        let start = Instant::now();
+        let name = format!("picture of 65,535 by {height}, compression {compression}, noise {noise}");
+        let answer = written(&widest(height, compression, noise), &mut Random::new(1));
+        let answer = answer.map_err(|text| format!("{name}: {text}"))?;
+        if answer != known {
+            return Err(format!("{name}: {answer}, known is {known}"));
+        }
+        println!("{name}: {answer}, as known, {:.1} s", start.elapsed().as_secs_f64());
+    }
+    Ok(())
+}
+
 fn main() -> ExitCode {
     let count = std::env::args().nth(1).map_or(PROPS, |word| word.parse().expect("a number"));
     let cases: [&dyn Fn() -> Case; 8] = [
@@ -109,6 +151,10 @@ fn main() -> ExitCode {
         }
         let bytes = case.file.len();
         println!("{}: {bytes} bytes, as known, {:.1} s", case.name, start.elapsed().as_secs_f64());
+    }
+    if let Err(text) = write_pictures() {
+        println!("{text}");
+        return ExitCode::FAILURE;
     }
     ExitCode::SUCCESS
 }

@@ -1,3 +1,4 @@
 pub mod Properties
 pub mod Told
 pub mod RowsTold
+pub mod WritingTold

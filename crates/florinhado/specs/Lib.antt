@@ -1,3 +1,4 @@
 pub mod Numbers
 pub mod Properties
 pub mod Rows
+pub mod Writing

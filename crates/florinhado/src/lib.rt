@@ -1,6 +1,7 @@
 // The library for C, Rust and Python: numbers and byte slices, each call a few lines over a proved one.
 // Each call returns 0 or the number of a refusal; whatever else it tells is 0 beside a refusal, but its place.
 mod raster;
+mod writing;
 
 use copy::Copied;
 use count::Counted;

@@ -1,0 +1,71 @@
+"""Makes the files of another program: python3 outside/make.py FOLDER
+
+Needs Debian's netpbm. ppmtoilbm writes each picture, and ilbmtoppm reads it back to the
+PPM that stands beside it. Where 01 has the library refuse the rows, the number stands
+beside it too, and the PPM, if there is one, has the palette.
+"""
+
+import pathlib
+import subprocess
+import sys
+
+PLANES = {1: (13, 7), 2: (17, 5), 3: (31, 9), 4: (37, 11), 5: (23, 6), 6: (45, 8), 7: (50, 9), 8: (61, 11)}
+MASK = b"P1 37 11\n" + b"0 1 1\n" * 135 + b"0 1\n"
+TEXTS = "-name Ring -author me -copyright 1985 -annotation Rings. -text odd -lace -hires".split()
+
+
+def ppm(width, height, colours, run=19):
+    """Runs on the even lines and noise on the odd ones, in so many colours."""
+    pixels = bytearray()
+    for n in range(width * height):
+        x, y = n % width, n // width
+        k = (x * x // 7 + 3 * y + x * y // 11 if y % 2 else x // run + y) % colours
+        pixels += bytes([k * 37 % 256, (k * 91 + 13) % 256, 255 - k * 53 % 256])
+    return b"P6\n%d %d\n255\n" % (width, height) + pixels
+
+
+def run(*words, given=b""):
+    return subprocess.run(words, input=given, check=True, capture_output=True).stdout
+
+
+def pictures(mask):
+    """The name of each file with its picture and the words for ppmtoilbm."""
+    for planes, (width, height) in PLANES.items():
+        for method in "byterun1", "none":
+            name = f"planes{planes}_" + {"none": "plain", "byterun1": "packed"}[method]
+            yield name, ppm(width, height, 2**planes), ["-fixplanes", str(planes), "-cmethod", method]
+    sixteen, many = ppm(37, 11, 16), ppm(61, 11, 256)
+    for method, name in ("byterun1", "packed"), ("none", "plain"):
+        words = ["-cmethod", method, "-fixplanes", "4"]
+        yield f"mask_{name}", sixteen, words + ["-mmethod", "plane", "-maskfile", mask]
+        yield f"ham6_{name}", many, ["-ham6", "-cmethod", method]
+        yield f"ham8_{name}", many, ["-ham8", "-cmethod", method]
+    yield "texts", sixteen, ["-fixplanes", "4", *TEXTS]
+    yield "wide", ppm(2300, 1, 2, run=1100), ["-fixplanes", "1"]
+    yield "map_only", sixteen, ["-cmaponly"]
+    yield "planes9", sixteen, ["-fixplanes", "9"]
+    yield "direct15", sixteen, ["-dcforce"]
+    yield "true24", sixteen, ["-24force"]
+
+
+REFUSED = {"map_only": 25, "planes9": 24, "direct15": 24, "true24": 24}
+
+
+def main():
+    folder = pathlib.Path(sys.argv[1])
+    folder.mkdir(parents=True, exist_ok=True)
+    mask = folder / "mask.pbm"
+    mask.write_bytes(MASK)
+    for name, picture, words in pictures(str(mask)):
+        file = run("ppmtoilbm", "-quiet", *words, given=picture)
+        (folder / f"{name}.ilbm").write_bytes(file)
+        if name in REFUSED:
+            (folder / f"{name}.refused").write_text(f"{REFUSED[name]}\n")
+        if REFUSED.get(name) != 24:
+            shown = run("ilbmtoppm", "-quiet", given=file)
+            (folder / f"{name}.ppm").write_bytes(run("ppmtoppm", given=shown))
+    mask.unlink()
+
+
+if __name__ == "__main__":
+    main()

@@ -1,0 +1,77 @@
+#!/bin/sh
+# The library beside other programs. Needs Debian's netpbm and ffmpeg, and target/staticlib/libflorinhado.a.
+# Remakes the files of outside/files, reads them, then has ilbmtoppm and ffmpeg read pictures that the library writes.
+set -eu
+cd "$(dirname "$0")/.."
+for program in ppmtoilbm ilbmtoppm ppmtoppm ffmpeg; do
+    command -v "$program" > /dev/null || { echo "$program is missing: it is in Debian's netpbm or ffmpeg" >&2; exit 2; }
+done
+CARGO_TARGET_DIR=${CARGO_TARGET_DIR:-$PWD/target/cargo}
+export CARGO_TARGET_DIR
+(cd outside && cargo build --offline --quiet --release)
+outside=$CARGO_TARGET_DIR/release/outside
+work=target/outside
+rm -rf "$work"
+mkdir -p "$work/written" "$work/apart"
+
+by_netpbm() {
+    ilbmtoppm -quiet "$1" | ppmtoppm
+}
+
+by_ffmpeg() {
+    ffmpeg -v error -f iff -i "$1" -f image2pipe -c:v ppm -pix_fmt rgb24 - < /dev/null
+}
+
+# both FILE PPM: each program's pixels are those of the PPM.
+both() {
+    for reader in by_netpbm by_ffmpeg; do
+        "$reader" "$1" > "$work/shown.ppm" || { echo "$1: $reader fails"; return 1; }
+        cmp "$work/shown.ppm" "$2" || { echo "$1: $reader"; return 1; }
+    done
+}
+
+ilbmtoppm -version 2>&1 | sed -n 's/.*Netpbm Version: //p'
+ffmpeg -version | sed -n 1p | cut -d' ' -f1-3
+
+python3 -B outside/make.py "$work/files"
+diff -r "$work/files" outside/files
+echo "outside/files: remade, the same bytes"
+"$outside" read outside/files
+
+count=0
+for file in outside/files/*.ilbm; do
+    name=${file%.ilbm}
+    case $name in
+    */ham*)
+        "$outside" ham "$file" > "$work/held.ppm"
+        by_ffmpeg "$file" | cmp - "$work/held.ppm"
+        ;;
+    *)
+        [ -e "$name.refused" ] && continue
+        by_ffmpeg "$file" | cmp - "$name.ppm"
+        ;;
+    esac
+    count=$((count + 1))
+done
+echo "outside/files: $count read by ffmpeg, the same pixels"
+
+"$outside" write "$work/written"
+count=0
+for file in "$work"/written/*.ilbm; do
+    both "$file" "${file%.ilbm}.ppm"
+    count=$((count + 1))
+done
+echo "$count pictures of the library read by ilbmtoppm and ffmpeg, the same pixels"
+
+# Told only: files on which readers differ.
+"$outside" apart "$work/apart"
+for file in "$work"/apart/*.ilbm; do
+    for reader in by_netpbm by_ffmpeg; do
+        if "$reader" "$file" > "$work/shown.ppm" 2> /dev/null && [ -s "$work/shown.ppm" ]; then
+            cmp -s "$work/shown.ppm" "${file%.ilbm}.ppm" && told="the library's pixels" || told="other pixels"
+        else
+            told="refused"
+        fi
+        echo "$(basename "$file" .ilbm), $reader: $told"
+    done
+done

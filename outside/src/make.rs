@@ -1,0 +1,103 @@
+//! Pictures that the library writes for other programs to read.
+
+use crate::picture::by_library;
+use florinhado::Header;
+use second::random::Random;
+use std::fs;
+use std::path::Path;
+
+/// Widths around the bounds of a byte and of a word, and wider ones.
+const WIDTHS: [u16; 12] = [1, 7, 8, 9, 15, 16, 17, 33, 100, 319, 640, 1999];
+
+/// One picture as a file.
+fn written(fields: &Header, palette: &[u8], frame: &[u8]) -> Vec<u8> {
+    let mut file = vec![0; 900 + 2 * frame.len() * usize::from(fields.planes)];
+    let length = florinhado::write(fields, palette, frame, &mut file).expect("a picture that can be written");
+    file.truncate(length);
+    file
+}
+
+/// Runs of many lengths on the even lines, and noise on the others.
+fn frame(random: &mut Random, fields: &Header) -> Vec<u8> {
+    let colours = 1 << fields.planes;
+    let mut frame = Vec::new();
+    for y in 0..fields.height {
+        let end = frame.len() + usize::from(fields.width);
+        while frame.len() < end {
+            let run = if y % 2 == 0 { random.between(1, 300) } else { 1 };
+            let next = end.min(frame.len() + run);
+            frame.resize(next, random.below(colours) as u8);
+        }
+    }
+    frame
+}
+
+fn fields(width: u16, planes: u8, compression: u8) -> Header {
+    Header {
+        width,
+        height: 1 + width % 5,
+        masking: if width.is_multiple_of(3) { 2 } else { 0 },
+        transparent: 1,
+        planes,
+        compression,
+        x_aspect: 10,
+        y_aspect: 11,
+        page_width: 320,
+        page_height: 200,
+        ..Header::default()
+    }
+}
+
+/// A picture of each width, plane count and compression, with its pixels.
+pub fn pictures(folder: &Path) -> Result<String, String> {
+    let mut random = Random::new(85);
+    let mut count = 0;
+    for planes in 1..=8 {
+        for compression in 0..2 {
+            for width in WIDTHS {
+                let given = fields(width, planes, compression);
+                let palette = random.bytes(3 << planes);
+                let frame = frame(&mut random, &given);
+                let name =
+                    format!("planes{planes}_{}_{width}", ["plain", "packed"][usize::from(compression)]);
+                save(folder, &name, &written(&given, &palette, &frame))?;
+                count += 1;
+            }
+        }
+    }
+    Ok(format!("{count} pictures written\n"))
+}
+
+/// The file, and the pixels that the library reads from it.
+fn save(folder: &Path, name: &str, file: &[u8]) -> Result<(), String> {
+    let picture = by_library(file);
+    let shown = picture.ppm(picture.looked_up()).bytes();
+    let done = fs::write(folder.join(format!("{name}.ilbm")), file);
+    done.and_then(|()| fs::write(folder.join(format!("{name}.ppm")), shown))
+        .map_err(|error| error.to_string())
+}
+
+fn chunk(name: &[u8; 4], data: &[u8]) -> Vec<u8> {
+    [&name[..], &(data.len() as u32).to_be_bytes(), data].concat()
+}
+
+/// Sound files that other programs read in their own way, or not at all: a
+/// second CMAP after the BODY, a picture in a CAT, one with a shared palette in a
+/// LIST, and one with a lasso.
+pub fn apart(folder: &Path) -> Result<String, String> {
+    let given = fields(16, 2, 0);
+    let frame: Vec<u8> = (0..32).map(|n| n % 4).collect();
+    let palette = [0, 0, 0, 255, 0, 0, 0, 255, 0, 0, 0, 255];
+    let alone = written(&given, &palette, &frame);
+    let other = chunk(b"CMAP", &[99; 12]);
+    let after = chunk(b"FORM", &[&alone[8..], &other[..]].concat());
+    let cat = chunk(b"CAT ", &[&b"ILBM"[..], &alone].concat());
+    let bare = written(&given, b"", &frame);
+    let shared = chunk(b"PROP", &[&b"ILBM"[..], &chunk(b"CMAP", &palette)].concat());
+    let list = chunk(b"LIST", &[&b"ILBM"[..], &shared, &bare].concat());
+    let lasso = written(&Header { masking: 3, ..given }, &palette, &frame);
+    for (name, file) in [("cmap_after_body", after), ("cat", cat), ("list", list), ("lasso", lasso)] {
+        save(folder, name, &file)?;
+    }
+    Ok(String::new())
+}
