@@ -1,3 +1,4 @@
 pub mod Contents
 pub mod Pictures
+pub mod Palette
 pub mod Rows
