@@ -1,4 +1,5 @@
 pub mod Contents
+pub mod Places
 pub mod Pictures
 pub mod Palette
 pub mod Rows
