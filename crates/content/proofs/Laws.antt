@@ -16,13 +16,14 @@ use Rattle.grammar.specs.Read.{Regular}
 use Rattle.ilbm.specs.declared.Origin.{Origin}
 use Rattle.ilbm.specs.declared.Origin.the-variants.{Own, Shared, Absent}
 use Rattle.ilbm.specs.Contents.{BODY, BMHD, CMAP, GRAB, DEST, SPRT, CAMG, lastOwn, lastShared, SharedProp, Property, own, shared, absent, fromProp, sharedBy, ownOr, propertyOf, bodiesIn, contentOf}
+use Rattle.ilbm.specs.Places.{lastOwnAt, lastSharedAt, orZero, sharedAt, ownAtOr, propertyAt}
 use Rattle.members.specs.declared.Part.{Part}
 use Rattle.members.specs.declared.Part.the-variants.{Nothing, Between}
-use Rattle.members.specs.Members.{Holds, Row, Shows, IsLast, CountsBodies, StopsAtBody, IsBody, untilBody, firstOf}
+use Rattle.members.specs.Members.{Holds, Row, Shows, beginOf, fromOf, IsLast, CountsBodies, StopsAtBody, IsBody, untilBody, firstOf}
 use Rattle.locate.specs.Spots.{Opens, ScopeIs, Scoped}
 use Rattle.content.specs.declared.Held.{Held}
 use Rattle.content.specs.declared.Contents.{Contents}
-use Rattle.content.specs.Held.{HeldIs, ContentsAre, SharedIs, PropertyIs, ContentIs}
+use Rattle.content.specs.Held.{HeldIs, HeldAt, ContentsAre, StartsAre, SharedIs, PropertyIs, ContentIs}
 
 -- "before the first BODY" is "among the chunks until the first BODY"
 own-until : (name : ℕ) (so-far : Option (List ℕ)) (G : Chunks) → lastOwn name so-far G ≡ lastShared name so-far (untilBody G)
@@ -36,6 +37,19 @@ own-until name so-far (leaf n d p F) = go (eqb n BODY) (own-until name (pick (eq
     go true e = refl
     go false e = e
 own-until name so-far (group n t G F) = own-until name so-far F
+
+own-until-at : (name p : ℕ) (so-far : Option ℕ) (G : Chunks) → lastOwnAt name p so-far G ≡ lastSharedAt name p so-far (untilBody G)
+unfolding lastOwnAt lastSharedAt untilBody
+own-until-at name p so-far none = refl
+own-until-at name p so-far (leaf n d x F) = go (eqb n BODY) _ (own-until-at name (p + (8 + length d + length x)) (pick (eqb n name) (some (p + 8)) so-far) F)
+  where
+    later : Chunks → Option ℕ
+    later K = lastSharedAt name (p + (8 + length d + length x)) (pick (eqb n name) (some (p + 8)) so-far) K
+
+    go : (b : Bool) (v : Option ℕ) → v ≡ later (untilBody F) → pick b so-far v ≡ lastSharedAt name p so-far (pick b none (leaf n d x (untilBody F)))
+    go true v e = refl
+    go false v e = e
+own-until-at name p so-far (group n t G F) = own-until-at name (p + (12 + length (bytes G))) so-far F
 
 -- the chunks until the first BODY stand first
 until-bytes : (F : Chunks) → (X : List ℕ) × (bytes F ≡ bytes (untilBody F) ++ X)
@@ -84,34 +98,48 @@ shows-none : (s : List ℕ) (part : Part) (v : Option (List ℕ)) → part ≡ N
 shows-none s part nothing i x = refl
 shows-none s part (some d) i x = absurd (rw i at x)
 
+-- a part of the shared PROP begins where the definition says
+starts-as :
+    (part r : Part) (prop place name : ℕ) (F : Chunks) → prop ≡ place → part ≡ r → beginOf part ≡ lastSharedAt name (prop + 12) nothing F →
+    fromOf r ≡ orZero (lastSharedAt name (place + 12) nothing F)
+starts-as part r prop place name F i j y = rw (← j, ← i) (ap orZero y)
+
 -- the shared PROP
 module _ (s : List ℕ) (prop name : ℕ) where
   pub shared-absent : prop ≡ 0 → SharedIs s prop name (record { part = Nothing; origin = Absent })
   shared-absent z = record { at = go }
     where
-      go : (scope : List SharedProp) → ScopeIs s prop scope → HeldIs s (record { part = Nothing; origin = Absent }) (sharedBy name scope)
-      go [] k = (refl, refl)
+      go :
+          (scope : List SharedProp) → ScopeIs s prop scope →
+          HeldAt s (record { part = Nothing; origin = Absent }) (sharedBy name scope) (sharedAt name scope)
+      go [] k = ((refl, refl), refl)
       go (x ∷ outer) k = absurd (omega (arith, k .1))
 
   module _ (z : (prop ≡ 0 → ⊥)) (n : ℕ) (i : n ≡ word s (prop + 4)) (part : Part) (l : IsLast s (prop + 12) (prop + 8 + n) name part) where
     pub shared-none : part ≡ Nothing → SharedIs s prop name (record { part = Nothing; origin = Absent })
     shared-none j = record { at = go }
       where
-        go : (scope : List SharedProp) → ScopeIs s prop scope → HeldIs s (record { part = Nothing; origin = Absent }) (sharedBy name scope)
+        go :
+            (scope : List SharedProp) → ScopeIs s prop scope →
+            HeldAt s (record { part = Nothing; origin = Absent }) (sharedBy name scope) (sharedAt name scope)
         go [] k = absurd (z k)
         go (x ∷ outer) k =
-            let a = l (x .members) (k .2 .0) (rw i (k .2 .1)) in
+            let (a, y) = l (x .members) (k .2 .0) (rw i (k .2 .1)) in
             let b : lastShared name nothing (x .members) ≡ nothing = shows-none s part (lastShared name nothing (x .members)) j a in
-            rw b (refl, refl)
+            (rw b (refl, refl), starts-as part Nothing prop (x .place) name (x .members) (k .0) j y)
 
     pub shared-some : (a b : ℕ) → part ≡ Between a b → SharedIs s prop name (record { part = Between a b; origin = Shared prop })
     shared-some a b j = record { at = go }
       where
-        go : (scope : List SharedProp) → ScopeIs s prop scope → HeldIs s (record { part = Between a b; origin = Shared prop }) (sharedBy name scope)
+        go :
+            (scope : List SharedProp) → ScopeIs s prop scope →
+            HeldAt s (record { part = Between a b; origin = Shared prop }) (sharedBy name scope) (sharedAt name scope)
         go [] k = absurd (z k)
         go (x ∷ outer) k =
-            shows-some s part a b (lastShared name nothing (x .members)) j (l (x .members) (k .2 .0) (rw i (k .2 .1)))
-            (λ d e w. rw e (ap Shared (k .0), w))
+            let (w, y) = l (x .members) (k .2 .0) (rw i (k .2 .1)) in (
+              shows-some s part a b (lastShared name nothing (x .members)) j w (λ d e v. rw e (ap Shared (k .0), v)),
+              starts-as part (Between a b) prop (x .place) name (x .members) (k .0) j y,
+            )
 
 -- the PROP lies inside the file
 prop-holds : (s : List ℕ) (prop : ℕ) → Scoped s prop → (prop ≡ 0 → ⊥) → (F : Chunks) × (R : List ℕ) × Holds s (prop + 12) (prop + 8 + word s (prop + 4)) F R
@@ -139,16 +167,34 @@ module _ (s : List ℕ) (prop : ℕ) (c : Scoped s prop) (z : (prop ≡ 0 → �
 
 -- the property that counts
 module _ (s : List ℕ) (p e q prop name : ℕ) (b : StopsAtBody s p e q) (part : Part) (l : IsLast s p q name part) where
-  own-shows : (F : Chunks) (R : List ℕ) → Holds s p e F R → Shows s part (lastOwn name nothing F)
-  own-shows F R h = rw (own-until name nothing F) (l (untilBody F) ((until-bytes F) .0 ++ R) (until-holds s p e q F R h (b F R h)))
+  own-shows : (F : Chunks) (R : List ℕ) → Holds s p e F R → Shows s part (lastOwn name nothing F) × (beginOf part ≡ lastOwnAt name p nothing F)
+  own-shows F R h =
+      rw (own-until name nothing F, own-until-at name p nothing F)
+      (l (untilBody F) ((until-bytes F) .0 ++ R) (until-holds s p e q F R h (b F R h)))
 
   pub counts-own : (x y : ℕ) → part ≡ Between x y → PropertyIs s p e prop name (record { part = Between x y; origin = Own })
-  unfolding propertyOf
-  counts-own x y j = record { at = λ F R scope h k. shows-some s part x y (lastOwn name nothing F) j (own-shows F R h) (λ d e w. rw e (refl, w)) }
+  unfolding propertyOf propertyAt
+  counts-own x y j = record { at = go }
+    where
+      go :
+          (F : Chunks) (R : List ℕ) (scope : List SharedProp) → Holds s p e F R → ScopeIs s prop scope →
+          HeldAt s (record { part = Between x y; origin = Own }) (propertyOf name F scope) (propertyAt name p F scope)
+      go F R scope h k =
+          let (w, v) = own-shows F R h in
+          let u : some x ≡ lastOwnAt name p nothing F = rw j at v in
+          (shows-some s part x y (lastOwn name nothing F) j w (λ d e z. rw e (refl, z)), rw (← u))
 
   pub counts-shared : (r : Held) → part ≡ Nothing → SharedIs s prop name r → PropertyIs s p e prop name r
-  unfolding propertyOf
-  counts-shared r j w = record { at = λ F R scope h k. rw (shows-none s part (lastOwn name nothing F) j (own-shows F R h)) (w .at scope k) }
+  unfolding propertyOf propertyAt
+  counts-shared r j w = record { at = go }
+    where
+      go :
+          (F : Chunks) (R : List ℕ) (scope : List SharedProp) → Holds s p e F R → ScopeIs s prop scope →
+          HeldAt s r (propertyOf name F scope) (propertyAt name p F scope)
+      go F R scope h k =
+          let (x, v) = own-shows F R h in
+          let u : nothing ≡ lastOwnAt name p nothing F = rw j at v in
+          rw (shows-none s part (lastOwn name nothing F) j x, ← u) (w .at scope k)
 
 -- the names of the properties are no groups' names
 pub plain-bmhd : isGroup (kindOf BMHD) ≡ false
@@ -183,14 +229,23 @@ all-content s p e prop r a b c d f g n w =
     record {
       at = λ F R scope h k.
           record {
-            bmhd = a .at F R scope h k;
-            cmap = b .at F R scope h k;
-            grab = c .at F R scope h k;
-            dest = d .at F R scope h k;
-            sprt = f .at F R scope h k;
-            camg = g .at F R scope h k;
+            bmhd = a .at F R scope h k .0;
+            cmap = b .at F R scope h k .0;
+            grab = c .at F R scope h k .0;
+            dest = d .at F R scope h k .0;
+            sprt = f .at F R scope h k .0;
+            camg = g .at F R scope h k .0;
             bodies = n F R h;
             body = w F R h;
+          };
+      starts = λ F R scope h k.
+          record {
+            bmhd = a .at F R scope h k .1;
+            cmap = b .at F R scope h k .1;
+            grab = c .at F R scope h k .1;
+            dest = d .at F R scope h k .1;
+            sprt = f .at F R scope h k .1;
+            camg = g .at F R scope h k .1;
           };
     }
 

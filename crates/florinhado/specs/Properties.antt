@@ -1,17 +1,17 @@
 -- The numbers told of a picture's properties; "any other number told beside it is 0".
-use Prim.Native.Nat.{ℕ}
-use mathlib.Core.Path.{_≡_}
+use Prim.Native.Nat.{ℕ, _+_}
 use mathlib.Core.List.{List}
-use mathlib.Core.Option.{some}
 use lib.IntN.{pos}
+use lib.ListN.{length}
 use Rattle.ilbm.specs.declared.Origin.{Origin}
 use Rattle.ilbm.specs.declared.Origin.the-variants.{Own, Shared, Absent}
 use Rattle.ilbm.specs.declared.BitmapHeader.{BitmapHeader}
 use Rattle.ilbm.specs.declared.PictureAnswer.{PictureAnswer}
 use Rattle.ilbm.specs.declared.PictureAnswer.the-variants.{Shown, Refused}
-use Rattle.ilbm.specs.Contents.{Property, own, shared, absent}
-use Rattle.ilbm.specs.Pictures.{Viewed, viewed, unseen, originOf}
-use Rattle.members.specs.Members.{Shows}
+use Rattle.ilbm.specs.Contents.{CMAP}
+use Rattle.ilbm.specs.Places.{placeOf}
+use Rattle.ilbm.specs.Pictures.{Viewed, viewed, unseen, viewOf, dataOf, originOf}
+use Rattle.members.specs.Members.{fromOf}
 use Rattle.members.specs.declared.Part.{Part}
 use Rattle.members.specs.declared.Part.the-variants.{Nothing, Between}
 use Rattle.view.specs.declared.View.{View}
@@ -78,32 +78,24 @@ viewModeTold (Shown p) =
     record { number = 0; place = 0; «view_mode» = p .«view_mode»; origin = originNumber (p .«view_mode_from»); shared = sharedPlace (p .«view_mode_from») }
 viewModeTold (Refused k p) = record { number = k; place = p; «view_mode» = 0; origin = 0; shared = 0 }
 
--- the palette's origin
-pub record PaletteTold : Type 0 where
-  pub number : ℕ
-  pub place : ℕ
-  pub origin : ℕ
-  pub shared : ℕ
+-- The CMAP that counts: its origin, and where its data lies, "handed back as a part of the slice it came from"; 0 and 0 where none
+-- counts, and after a refusal.
+unfoldable pub paletteTold : Viewed → ℕ → PaletteParts
+paletteTold (viewed c) start =
+    record {
+      number = 0;
+      place = 0;
+      origin = originNumber (originOf (c .cmap));
+      shared = sharedPlace (originOf (c .cmap));
+      from = start;
+      to = start + length (dataOf (c .cmap));
+    }
+paletteTold (unseen k p) start = record { number = k; place = p; origin = 0; shared = 0; from = 0; to = 0 }
 
-unfoldable pub paletteTold : Viewed → PaletteTold
-paletteTold (viewed c) = record { number = 0; place = 0; origin = originNumber (originOf (c .cmap)); shared = sharedPlace (originOf (c .cmap)) }
-paletteTold (unseen k p) = record { number = k; place = p; origin = 0; shared = 0 }
-
--- "handed back as a part of the slice it came from": the data of the CMAP that counts; 0 and 0 where none counts, and after a refusal
-abbrev pub Lies : List ℕ → ℕ → ℕ → Property → Type 0
-Lies s from to (own d) = Shows s (Between from to) (some d)
-Lies s from to (shared p d) = Shows s (Between from to) (some d)
-Lies s from to absent = (from ≡ 0) × (to ≡ 0)
-
-abbrev pub PaletteLies : List ℕ → ℕ → ℕ → Viewed → Type 0
-PaletteLies s from to (viewed c) = Lies s from to (c .cmap)
-PaletteLies s from to (unseen k p) = (from ≡ 0) × (to ≡ 0)
+abbrev pub paletteExtent : List ℕ → ℕ → PaletteParts
+paletteExtent s i = paletteTold (viewOf s i) (placeOf s i CMAP)
 
 -- the same of the parts that a view gives
-abbrev pub fromOf : Part → ℕ
-fromOf Nothing = 0
-fromOf (Between a b) = a
-
 abbrev pub toOf : Part → ℕ
 toOf Nothing = 0
 toOf (Between a b) = b

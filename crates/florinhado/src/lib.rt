@@ -19,15 +19,18 @@ use tree::Verdict;
 use view::View;
 use view::view_picture;
 ghost use mathlib.Core.Path.{_≡_};
+ghost use mathlib.Core.List.{[]};
 ghost use lib.ListN.{length};
+ghost use lib.Seq.{slice};
 ghost use Rattle.tree.specs.Judge.{checkOf};
 ghost use Rattle.listing.specs.Records.{recordOf};
 ghost use Rattle.listing.specs.Contents.{extentOf};
 ghost use Rattle.copy.specs.Clean.{copyOf, copiedInto};
 ghost use Rattle.count.specs.Count.{countOf};
-ghost use Rattle.ilbm.specs.Pictures.{pictureOf, viewOf};
+ghost use Rattle.ilbm.specs.Pictures.{pictureOf, paletteOf};
+ghost use Rattle.members.specs.Members.{fromOf};
 ghost use Rattle.pack.specs.Pack.{packOf, outAfter};
-ghost use Rattle.florinhado.specs.Properties.{originNumber, sharedPlace, headerTold, grabTold, destinationTold, spriteTold, viewModeTold, fromOf, toOf, paletteParts, paletteTold, PaletteLies};
+ghost use Rattle.florinhado.specs.Properties.{originNumber, sharedPlace, headerTold, grabTold, destinationTold, spriteTold, viewModeTold, toOf, paletteParts, paletteExtent};
 ghost use Rattle.florinhado.specs.Numbers.{checkTold, kindNumber, recordTold, dataTold, copyTold, countTold, packTold};
 
 // Judges a file: chunks, end of the outermost chunk, bytes after it.
@@ -675,9 +678,15 @@ pub extern "C" fn ilbm_palette(
     from: &mut usize,
     to: &mut usize,
 ) -> usize
-    ensures told { λ r. ⌜ record { number = r; place = now (place .exit); origin = now (origin .exit); shared = now (shared .exit) }
-        ≡ paletteTold (viewOf (now (file .entry)) number) ⌝ }
-    ensures part { λ _. ⌜ PaletteLies (now (file .entry)) (now (from .exit)) (now (to .exit)) (viewOf (now (file .entry)) number) ⌝ }
+    ensures told { λ r. ⌜ record {
+      number = r;
+      place = now (place .exit);
+      origin = now (origin .exit);
+      shared = now (shared .exit);
+      from = now (from .exit);
+      to = now (to .exit);
+    } ≡ paletteExtent (now (file .entry)) number ⌝ }
+    ensures part { λ _. ⌜ slice (now (from .exit)) (now (to .exit)) (now (file .entry)) ≡ paletteOf (now (file .entry)) number [] ⌝ }
 {
     let v = view_picture(file, number);
     let told = palette_parts(v);

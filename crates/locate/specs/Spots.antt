@@ -8,7 +8,8 @@ use lib.ListN.{length, drop}
 use Rattle.name.specs.Name.{both, pick, kindOf}
 use Rattle.chunk.specs.Rules.{isGroup}
 use Rattle.chunk.specs.Chunks.{Chunks, none, leaf, group, bytes, word}
-use Rattle.ilbm.specs.Contents.{FORM, ILBM, SharedProp, propAmong, scopeInside, Content, contentOf, contentsFrom}
+use Rattle.ilbm.specs.Contents.{FORM, ILBM, SharedProp, propAmong, scopeInside}
+use Rattle.ilbm.specs.Places.{PictureForm, formAt, formsFrom}
 use Rattle.members.specs.Members.{Holds, Row}
 use Rattle.locate.specs.declared.Spot.{Spot}
 use Rattle.locate.specs.declared.Spot.the-variants.{Here, Left}
@@ -23,10 +24,10 @@ ScopeIs s prop [] = prop ≡ 0
 ScopeIs s prop (x ∷ outer) = (prop ≡ x .place) × (0 < prop) × Opens s prop (x .members)
 
 -- The picture of number k among these is the FORM at a place with a shared PROP; or there are too few, and so many are left to pass.
-abbrev pub Spotted : List ℕ → ℕ → List Content → Spot → Type 0
-Spotted s k cs (Here f g) =
-    (G : Chunks) × (scope : List SharedProp) × (rest : List Content) × Opens s f G × ScopeIs s g scope × (drop k cs ≡ contentOf G scope ∷ rest)
-Spotted s k cs (Left m) = (Y : List Content) → drop k (cs ++ Y) ≡ drop m Y
+abbrev pub Spotted : List ℕ → ℕ → List PictureForm → Spot → Type 0
+Spotted s k fs (Here f g) =
+    (G : Chunks) × (scope : List SharedProp) × (rest : List PictureForm) × Opens s f G × ScopeIs s g scope × (drop k fs ≡ formAt f G scope ∷ rest)
+Spotted s k fs (Left m) = (Y : List PictureForm) → drop k (fs ++ Y) ≡ drop m Y
 
 -- whether the first of some chunks is a group of this name and type
 abbrev pub groupIs : ℕ → ℕ → Chunks → Bool
@@ -35,23 +36,23 @@ groupIs name kind (leaf n d pad F) = false
 groupIs name kind (group n t G F) = both (eqb n name) (eqb t kind)
 
 -- the pictures in the first of some chunks: itself, if it is one, and those inside it
-abbrev pub contentsHere : ℕ → List SharedProp → Chunks → List Content
-contentsHere p scope none = []
-contentsHere p scope (leaf n d pad F) = []
-contentsHere p scope (group n t G F) =
-    pick (both (eqb n FORM) (eqb t ILBM)) (contentOf G scope ∷ []) [] ++ contentsFrom (p + 12) (scopeInside n p G scope) G
+abbrev pub formsHere : ℕ → List SharedProp → Chunks → List PictureForm
+formsHere p scope none = []
+formsHere p scope (leaf n d pad F) = []
+formsHere p scope (group n t G F) =
+    pick (both (eqb n FORM) (eqb t ILBM)) (formAt p G scope ∷ []) [] ++ formsFrom (p + 12) (scopeInside n p G scope) G
 
 -- What the functions find, whatever chunks stand from p to e and whatever scope prop tells.
 pub record Seeks (s : List ℕ) (p e prop k : ℕ) (r : Spot) : Type 0 where
-  pub at : (F : Chunks) (R : List ℕ) (scope : List SharedProp) → Holds s p e F R → ScopeIs s prop scope → Spotted s k (contentsFrom p scope F) r
+  pub at : (F : Chunks) (R : List ℕ) (scope : List SharedProp) → Holds s p e F R → ScopeIs s prop scope → Spotted s k (formsFrom p scope F) r
 
 pub record Visits (s : List ℕ) (p e prop k : ℕ) (r : Spot) : Type 0 where
-  pub at : (F : Chunks) (R : List ℕ) (scope : List SharedProp) → Holds s p e F R → ScopeIs s prop scope → Spotted s k (contentsHere p scope F) r
+  pub at : (F : Chunks) (R : List ℕ) (scope : List SharedProp) → Holds s p e F R → ScopeIs s prop scope → Spotted s k (formsHere p scope F) r
 
 pub record Enters (s : List ℕ) (p e prop k : ℕ) (r : Spot) : Type 0 where
   pub at :
       (n t : ℕ) (G F : Chunks) (R : List ℕ) (scope : List SharedProp) → Holds s p e (group n t G F) R → ScopeIs s prop scope →
-      Spotted s k (contentsFrom (p + 12) (scopeInside n p G scope) G) r
+      Spotted s k (formsFrom (p + 12) (scopeInside n p G scope) G) r
 
 -- some scope is told by prop
 abbrev pub Scoped : List ℕ → ℕ → Type 0

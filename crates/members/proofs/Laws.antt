@@ -16,10 +16,11 @@ use Rattle.chunk.specs.Chunks.{Chunks, none, leaf, group, bytes, word, nextAt}
 use Rattle.chunk.specs.Rules.{isGroup}
 use Rattle.grammar.specs.Read.{Regular, length-leaf, length-group, leaf-fits, leaf-name, leaf-size, leaf-data, leaf-next, leaf-rest, group-fits, group-name, group-size, group-next, group-rest}
 use Rattle.ilbm.specs.Contents.{BODY, lastShared, bodiesIn}
+use Rattle.ilbm.specs.Places.{lastSharedAt}
 use Rattle.members.specs.declared.Sibling.{Sibling}
 use Rattle.members.specs.declared.Part.{Part}
 use Rattle.members.specs.declared.Part.the-variants.{Nothing, Between}
-use Rattle.members.specs.Members.{Holds, Row, Shows, Front, Tells, IsLast, CountsBodies, StopsAtBody, untilBody, firstOf, IsBody}
+use Rattle.members.specs.Members.{Holds, Row, Shows, beginOf, Front, Tells, IsLast, CountsBodies, StopsAtBody, untilBody, firstOf, IsBody}
 
 -- no chunks take no room
 empty : length (bytes none) ≡ 0
@@ -88,10 +89,11 @@ all-read s q e (group n t G F) R l h = absurd (omega (arith, length-group n t G 
 no-group : (n name : ℕ) → isGroup (kindOf n) ≡ true → isGroup (kindOf name) ≡ false → eqb n name ≡ false
 no-group n name g h = ne-eqb n name (λ i. let z : _≡_ {A = ℕ} 0 1 = cc in omega arith)
 
--- the part found so far, and that the chunks to come bring it to v
-abbrev pub Looks : List ℕ → ℕ → ℕ → ℕ → Part → Option (List ℕ) → Type 0
-Looks s e name q part v =
-    (so-far : Option (List ℕ)) × (F : Chunks) × (R : List ℕ) × Shows s part so-far × Holds s q e F R × (lastShared name so-far F ≡ v)
+-- the part found so far, and that the chunks to come bring its data to v and its place to w
+abbrev pub Looks : List ℕ → ℕ → ℕ → ℕ → Part → Option (List ℕ) → Option ℕ → Type 0
+Looks s e name q part v w =
+    (so-far : Option (List ℕ)) × (F : Chunks) × (R : List ℕ) × Shows s part so-far × Holds s q e F R × (lastShared name so-far F ≡ v) ×
+    (lastSharedAt name q (beginOf part) F ≡ w)
 
 shows-pick :
     (s : List ℕ) (hit : Bool) (a b : ℕ) (d : List ℕ) (part : Part) (so-far : Option (List ℕ)) → Shows s (Between a b) (some d) → Shows s part so-far →
@@ -99,33 +101,48 @@ shows-pick :
 shows-pick s true a b d part so-far x y = x
 shows-pick s false a b d part so-far x y = y
 
-module _ (s : List ℕ) (e name q : ℕ) (part part' : Part) (v : Option (List ℕ)) (m : Sibling) where
+begin-pick : (hit : Bool) (a b : ℕ) (part : Part) → pick hit (some a) (beginOf part) ≡ beginOf (pick hit (Between a b) part)
+begin-pick true a b part = refl
+begin-pick false a b part = refl
+
+module _ (s : List ℕ) (e name q : ℕ) (part part' : Part) (v : Option (List ℕ)) (w : Option ℕ) (m : Sibling) where
   pub look-more :
       isGroup (kindOf name) ≡ false → Tells s q e m → part' ≡ pick (eqb (m .name .code) name) (Between (m .from) (m .to)) part →
-      Looks s e name q part v → Looks s e name (m .next) part' v
-  unfolding lastShared
-  look-more k t i (so-far, F, R, sh, h, u) = go F sh u (t .front F R h) (h .regular)
+      Looks s e name q part v w → Looks s e name (m .next) part' v w
+  unfolding lastShared lastSharedAt
+  look-more k t i (so-far, F, R, sh, h, u, z) = go F sh u z h (t .front F R h) (h .regular)
     where
       go :
-          (F : Chunks) → Shows s part so-far → lastShared name so-far F ≡ v → Front s e (m .name .code) (m .from) (m .to) (m .next) F R → Regular F →
-          Looks s e name (m .next) part' v
-      go none sh u f g = absurd f
-      go (leaf n d p F) sh u f g = (
-        pick (eqb n name) (some d) so-far,
-        F,
-        R,
-        rw (i, f .0) (shows-pick s (eqb n name) (m .from) (m .to) d part so-far (f .1) sh),
-        f .2,
-        u,
-      )
-      go (group n t G F) sh u f g = (so-far, F, R, rw (i, f .0, no-group n name (g .0) k) sh, f .1, u)
+          (F : Chunks) → Shows s part so-far → lastShared name so-far F ≡ v → lastSharedAt name q (beginOf part) F ≡ w → Holds s q e F R →
+          Front s e (m .name .code) (m .from) (m .to) (m .next) F R → Regular F → Looks s e name (m .next) part' v w
+      go none sh u z h f g = absurd f
+      go (leaf n d p F) sh u z h f g =
+          let j : q + (8 + length d + length p) ≡ m .next = omega (arith, length-leaf n d p F, h .ends, f .2 .ends) in (
+            pick (eqb n name) (some d) so-far,
+            F,
+            R,
+            rw (i, f .0) (shows-pick s (eqb n name) (m .from) (m .to) d part so-far (f .1) sh),
+            f .2,
+            u,
+            rw (i, f .0, ← begin-pick (eqb n name) (m .from) (m .to) part, t .starts, ← j) z,
+          )
+      go (group n x G F) sh u z h f g =
+          let j : q + (12 + length (bytes G)) ≡ m .next = omega (arith, length-group n x G F, h .ends, f .1 .ends) in
+          let y : part' ≡ part = rw (f .0, no-group n name (g .0) k) at i in
+          (so-far, F, R, rw y sh, f .1, u, rw (y, ← j) z)
 
-pub look-end : (s : List ℕ) (e name q : ℕ) (part : Part) (v : Option (List ℕ)) → e ≤ q → Looks s e name q part v → Shows s part v
-unfolding lastShared
-look-end s e name q part v l (so-far, F, R, sh, h, u) = let n : lastShared name so-far none ≡ v = rw (all-read s q e F R l h) at u in rw (← n) sh
+pub look-end :
+    (s : List ℕ) (e name q : ℕ) (part : Part) (v : Option (List ℕ)) (w : Option ℕ) → e ≤ q → Looks s e name q part v w → Shows s part v × (beginOf part ≡ w)
+unfolding lastShared lastSharedAt
+look-end s e name q part v w l (so-far, F, R, sh, h, u, z) =
+    let n : lastShared name so-far none ≡ v = rw (all-read s q e F R l h) at u in
+    let y : lastSharedAt name q (beginOf part) none ≡ w = rw (all-read s q e F R l h) at z in
+    (rw (← n) sh, y)
 
-pub look-start : (s : List ℕ) (p e name : ℕ) (F : Chunks) (R : List ℕ) → Holds s p e F R → Looks s e name p Nothing (lastShared name nothing F)
-look-start s p e name F R h = (nothing, F, R, tt, h, refl)
+pub look-start :
+    (s : List ℕ) (p e name : ℕ) (F : Chunks) (R : List ℕ) → Holds s p e F R →
+    Looks s e name p Nothing (lastShared name nothing F) (lastSharedAt name p nothing F)
+look-start s p e name F R h = (nothing, F, R, tt, h, refl, refl)
 
 -- BODY is no group
 body-leaf : isGroup (kindOf BODY) ≡ false
@@ -235,7 +252,7 @@ row-le s p e (F, R, h) = omega (arith, h .ends)
 
 -- The four loops' invariants, from the place p at which each began: whatever chunks stand there.
 pub record Looked (s : List ℕ) (p e name q : ℕ) (part : Part) : Type 0 where
-  pub at : (F : Chunks) (R : List ℕ) → Holds s p e F R → Looks s e name q part (lastShared name nothing F)
+  pub at : (F : Chunks) (R : List ℕ) → Holds s p e F R → Looks s e name q part (lastShared name nothing F) (lastSharedAt name p nothing F)
 
 pub record Counted (s : List ℕ) (p e q n : ℕ) : Type 0 where
   pub at : (F : Chunks) (R : List ℕ) → Holds s p e F R → Counting s e q n (length (bodiesIn F))
@@ -264,7 +281,7 @@ module _ (s : List ℕ) (p e : ℕ) where
         (name : ℕ) (part part' : Part) → isGroup (kindOf name) ≡ false → part' ≡ pick (eqb (m .name .code) name) (Between (m .from) (m .to)) part →
         Looked s p e name q part → Looked s p e name (m .next) part'
     looked-more name part part' k i l =
-        record { at = λ F R h. look-more s e name q part part' (lastShared name nothing F) m k t i (l .at F R h) }
+        record { at = λ F R h. look-more s e name q part part' (lastShared name nothing F) (lastSharedAt name p nothing F) m k t i (l .at F R h) }
 
     pub counted-more : (n k : ℕ) → k ≡ pick (eqb (m .name .code) BODY) 1 0 → Counted s p e q n → Counted s p e (m .next) (n + k)
     counted-more n k i l = record { at = λ F R h. count-more s e q m t n k (length (bodiesIn F)) i (l .at F R h) }
@@ -300,7 +317,7 @@ module _ (s : List ℕ) (p e : ℕ) where
 
   module _ (q : ℕ) (l : e ≤ q) where
     pub looked-end : (name : ℕ) (part : Part) → Looked s p e name q part → IsLast s p e name part
-    looked-end name part k F R h = look-end s e name q part (lastShared name nothing F) l (k .at F R h)
+    looked-end name part k F R h = look-end s e name q part (lastShared name nothing F) (lastSharedAt name p nothing F) l (k .at F R h)
 
     pub counted-end : (n : ℕ) → Counted s p e q n → CountsBodies s p e n
     counted-end n k F R h = count-end s e q n (length (bodiesIn F)) l (k .at F R h)

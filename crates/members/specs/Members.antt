@@ -12,6 +12,7 @@ use Rattle.chunk.specs.Chunks.{Chunks, none, leaf, group, bytes}
 use Rattle.chunk.specs.Rules.{isGroup}
 use Rattle.grammar.specs.Read.{Regular}
 use Rattle.ilbm.specs.Contents.{BODY, lastOwn, lastShared, bodiesIn}
+use Rattle.ilbm.specs.Places.{lastSharedAt, orZero}
 use Rattle.members.specs.declared.Sibling.{Sibling}
 use Rattle.members.specs.declared.Part.{Part}
 use Rattle.members.specs.declared.Part.the-variants.{Nothing, Between}
@@ -35,6 +36,14 @@ Shows s Nothing (some d) = ⊥
 Shows s (Between a b) nothing = ⊥
 Shows s (Between a b) (some d) = (slice a b s ≡ d) × (a + length d ≡ b) × (b ≤ length s)
 
+-- where a part begins; as a number, 0 for nothing
+abbrev pub beginOf : Part → Option ℕ
+beginOf Nothing = nothing
+beginOf (Between a b) = some a
+
+abbrev pub fromOf : Part → ℕ
+fromOf part = orZero (beginOf part)
+
 -- the chunks before the first BODY
 unfoldable pub untilBody : Chunks → Chunks
 untilBody none = none
@@ -50,12 +59,14 @@ Front s e name from to next (group n t G F) R = (name ≡ n) × Holds s next e F
 -- m is the member at p of a group that ends at e
 pub record Tells (s : List ℕ) (p e : ℕ) (m : Sibling) : Type 0 where
   pub front : (F : Chunks) (R : List ℕ) → Holds s p e F R → Front s e (m .name .code) (m .from) (m .to) (m .next) F R
+  pub starts : m .from ≡ p + 8
   pub later : p < m .next
   pub inside : m .next ≤ e
 
--- the part is the data of the last chunk of this name
+-- the part is the data of the last chunk of this name, at its place
 abbrev pub IsLast : List ℕ → ℕ → ℕ → ℕ → Part → Type 0
-IsLast s p e name part = (F : Chunks) (R : List ℕ) → Holds s p e F R → Shows s part (lastShared name nothing F)
+IsLast s p e name part =
+    (F : Chunks) (R : List ℕ) → Holds s p e F R → Shows s part (lastShared name nothing F) × (beginOf part ≡ lastSharedAt name p nothing F)
 
 -- so many chunks of them are BODYs
 abbrev pub CountsBodies : List ℕ → ℕ → ℕ → ℕ → Type 0

@@ -18,6 +18,7 @@ use Rattle.ilbm.specs.declared.PictureAnswer.{PictureAnswer}
 use Rattle.ilbm.specs.declared.PictureAnswer.the-variants.{Shown, Refused}
 use Rattle.ilbm.specs.Contents.{Property, own, shared, absent, Content}
 use Rattle.ilbm.specs.Pictures.{u16, u32, headerIn, hotSpotIn, destinationIn, dataOf, originOf, counts, sizeNot, sizeNotTriples, wrongSize, headerFault, pictureFault, pictureFrom, paletteFrom, Viewed, viewed, unseen, viewOf, pictureOf, pictureAnswer, paletteOf, paletteBytes}
+use Rattle.ilbm.specs.Palette.{Answer, paletteAnswer}
 use Rattle.members.specs.declared.Part.{Part}
 use Rattle.members.specs.declared.Part.the-variants.{Nothing, Between}
 use Rattle.content.specs.declared.Held.{Held}
@@ -218,6 +219,12 @@ module _ (s : List ℕ) (i : ℕ) (v : View) (w : ViewIs s v (viewOf s i)) where
 
   pub palette-unseen : (k p : ℕ) (default : List ℕ) → v ≡ Unseen k p → [] ≡ paletteOf s i default
   palette-unseen k p default j = let x : viewOf s i ≡ unseen k p = rw j at w in rw x
+
+  pub answer-seen : (c : Contents) → v ≡ Seen c → _≡_ {A = Answer} (record { number = 0; place = 0 }) (paletteAnswer s i)
+  answer-seen c j = let x : ViewIs s (Seen c) (viewOf s i) = rw j at w in rw (x .1)
+
+  pub answer-unseen : (k p : ℕ) → v ≡ Unseen k p → _≡_ {A = Answer} (record { number = k; place = p }) (paletteAnswer s i)
+  answer-unseen k p j = let x : viewOf s i ≡ unseen k p = rw j at w in rw x
 
 -- the palette
 palette-of : (q : Property) (default : List ℕ) → counts q ≡ true → dataOf q ≡ paletteFrom q default

@@ -17,6 +17,7 @@ use view::view_picture;
 ghost use mathlib.Core.Path.{_≡_};
 ghost use Prim.Native.Nat.{ℕ};
 ghost use Rattle.ilbm.specs.Pictures.{pictureOf, paletteOf};
+ghost use Rattle.ilbm.specs.Palette.{paletteAnswer};
 ghost use Rattle.picture.specs.Told.{OfSize, Judged, HeaderTold, GrabTold, DestinationTold, WordTold, LongTold, PictureTold, PaletteTold};
 
 // The fields of BMHD, 0 if it is absent.
@@ -150,13 +151,29 @@ fn palette_in<'a>(s: &'a [u8], c: Contents, default: &'a [u8]) -> &'a [u8]
     }
 }
 
-// The palette of picture i: the CMAP that counts, as a part of the file, or the default where none counts; empty after a refusal.
-pub fn palette<'a>(s: &'a [u8], i: usize, default: &'a [u8]) -> &'a [u8]
-    ensures { λ r. ⌜ now r ≡ paletteOf (now (s .entry)) i (now (default .entry)) ⌝ }
+// The palette of picture i: the CMAP that counts, as a part of the file, or the default where none counts. A refusal is told by its
+// number and place, with an empty part; otherwise both are 0.
+pub fn palette<'a>(
+    s: &'a [u8],
+    i: usize,
+    default: &'a [u8],
+    number: &mut usize,
+    place: &mut usize,
+) -> &'a [u8]
+    ensures told { λ _. ⌜ record { number = now (number .exit); place = now (place .exit) } ≡ paletteAnswer (now (s .entry)) i ⌝ }
+    ensures part { λ r. ⌜ now r ≡ paletteOf (now (s .entry)) i (now (default .entry)) ⌝ }
 {
     let v = view_picture(s, i);
     match v {
-        View::Seen(c) => palette_in(s, c, default),
-        View::Unseen(_, _) => &s[0..0],
+        View::Seen(c) => {
+            *number = 0;
+            *place = 0;
+            palette_in(s, c, default)
+        }
+        View::Unseen(k, p) => {
+            *number = k;
+            *place = p;
+            &s[0..0]
+        }
     }
 }

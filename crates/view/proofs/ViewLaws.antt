@@ -17,7 +17,8 @@ use Rattle.tree.specs.declared.Verdict.the-variants.{Accepted, Refused}
 use Rattle.grammar.specs.Words.{slice-take}
 use Rattle.flat.specs.Coming.{Sound}
 use Rattle.ilbm.specs.declared.BitmapHeader.{BitmapHeader}
-use Rattle.ilbm.specs.Contents.{SharedProp, Property, own, shared, absent, Content, contentOf, contentsOf}
+use Rattle.ilbm.specs.Contents.{BMHD, CMAP, GRAB, DEST, SPRT, CAMG, SharedProp, Property, own, shared, absent, Content, contentOf, contentsOf}
+use Rattle.ilbm.specs.Places.{propertyAt, PictureForm, formAt, formsOf, contentsIn, contents-of-forms, placeAmong, placeOf}
 use Rattle.ilbm.specs.Pictures.{dataOf, counts, sizeNot, wrongSize, headerIn, headerFault, pictureFault, Viewed, viewed, unseen, judged, pickContent, viewIn, viewOf}
 use Rattle.members.specs.declared.Part.{Part}
 use Rattle.members.specs.declared.Part.the-variants.{Nothing, Between}
@@ -27,10 +28,10 @@ use Rattle.locate.specs.declared.Spot.the-variants.{Here, Left}
 use Rattle.locate.specs.Spots.{Opens, ScopeIs, Scoped, Spotted, Seeks}
 use Rattle.content.specs.declared.Held.{Held}
 use Rattle.content.specs.declared.Contents.{Contents}
-use Rattle.content.specs.Held.{HeldIs, ContentsAre, ContentIs}
+use Rattle.content.specs.Held.{HeldIs, ContentsAre, StartsAre, ContentIs}
 use Rattle.view.specs.declared.View.{View}
 use Rattle.view.specs.declared.View.the-variants.{Seen, Unseen}
-use Rattle.view.specs.Seen.{Full, SizesTold, FaultTold, ViewIs, FormIn, FormView}
+use Rattle.view.specs.Seen.{Full, SizesTold, FaultTold, ViewIs, Begins, Placed, FormIn, FormView}
 use Rattle.view.proofs.Laws.{held-some, held-none}
 
 -- the data that a part holds
@@ -114,7 +115,7 @@ module _ (s : List ℕ) (form prop z : ℕ) (i : z ≡ word s (form + 4)) where
 
     module _ (n : ℕ) (v : FaultTold s c n) where
       pub form-seen : n ≡ 0 → FormView s form prop (Seen c)
-      form-seen j = record { at = go }
+      form-seen j = record { at = go; starts = λ G scope o k. w .starts G (o .0) scope (rw i (o .1)) k }
         where
           go : (G : Chunks) (scope : List SharedProp) → Opens s form G → ScopeIs s prop scope → ViewIs s (Seen c) (judged (contentOf G scope))
           go G scope o k =
@@ -123,7 +124,7 @@ module _ (s : List ℕ) (form prop z : ℕ) (i : z ≡ word s (form + 4)) where
               (contentOf G scope, rw (eq-eqb _ _ e), x, e)
 
       pub form-unseen : (n ≡ 0 → ⊥) → FormView s form prop (Unseen n 0)
-      form-unseen j = record { at = go }
+      form-unseen j = record { at = go; starts = λ G scope o k. tt }
         where
           go : (G : Chunks) (scope : List SharedProp) → Opens s form G → ScopeIs s prop scope → ViewIs s (Unseen n 0) (judged (contentOf G scope))
           go G scope o k =
@@ -142,41 +143,71 @@ sound-row s e f = (before (f .chunk) none, drop e s, sound-holds s e f)
 pub no-scope : (s : List ℕ) → Scoped s 0
 no-scope s = ([], refl)
 
-pick-none : (cs : List Content) (i : ℕ) → drop i cs ≡ [] → pickContent cs i ≡ unseen 20 0
-unfolding pickContent
+-- the form of number i gives the content and the places of number i
+pick-none : (fs : List PictureForm) (i : ℕ) → drop i fs ≡ [] → pickContent (contentsIn fs) i ≡ unseen 20 0
+unfolding pickContent contentsIn
 pick-none [] zero e = refl
 pick-none [] (suc i) e = refl
-pick-none (c ∷ cs) zero e = absurd (let z : _≡_ {A = ℕ} 0 1 = cc in omega arith)
-pick-none (c ∷ cs) (suc i) e = pick-none cs i e
+pick-none (f ∷ fs) zero e = absurd (let z : _≡_ {A = ℕ} 0 1 = cc in omega arith)
+pick-none (f ∷ fs) (suc i) e = pick-none fs i e
 
-pick-some : (cs : List Content) (i : ℕ) (x : Content) (rest : List Content) → drop i cs ≡ x ∷ rest → pickContent cs i ≡ judged x
-unfolding pickContent
+pick-some :
+    (fs : List PictureForm) (i : ℕ) (x : PictureForm) (rest : List PictureForm) → drop i fs ≡ x ∷ rest →
+    (pickContent (contentsIn fs) i ≡ judged (contentOf (x .members) (x .scope))) ×
+    ((name : ℕ) → propertyAt name (x .place + 12) (x .members) (x .scope) ≡ placeAmong fs i name)
+unfolding pickContent contentsIn placeAmong
 pick-some [] zero x rest e = absurd (let z : _≡_ {A = ℕ} 0 1 = cc in omega arith)
 pick-some [] (suc i) x rest e = absurd (let z : _≡_ {A = ℕ} 0 1 = cc in omega arith)
-pick-some (c ∷ cs) zero x rest e = let j : c ≡ x = cc in ap judged j
-pick-some (c ∷ cs) (suc i) x rest e = pick-some cs i x rest e
+pick-some (f ∷ fs) zero x rest e = let j : f ≡ x = cc in rw j (refl, λ name. refl)
+pick-some (f ∷ fs) (suc i) x rest e = pick-some fs i x rest e
 
-drop-none : (m : ℕ) → drop {A = Content} m [] ≡ []
+drop-none : (m : ℕ) → drop {A = PictureForm} m [] ≡ []
 drop-none zero = refl
 drop-none (suc m) = refl
 
+begins-same : (v : View) (f g : ℕ → ℕ) → ((name : ℕ) → f name ≡ g name) → Begins v f → Begins v g
+begins-same (Seen c) f g e w =
+    record {
+      bmhd = w .bmhd ∙ e BMHD;
+      cmap = w .cmap ∙ e CMAP;
+      grab = w .grab ∙ e GRAB;
+      dest = w .dest ∙ e DEST;
+      sprt = w .sprt ∙ e SPRT;
+      camg = w .camg ∙ e CAMG;
+    }
+begins-same (Unseen k p) f g e w = tt
+
 module _ (s : List ℕ) (e i : ℕ) (f : Sound s e) (r : Spot) (w : Seeks s 0 e 0 i r) where
-  spotted : Spotted s i (contentsOf (f .chunk)) r
+  spotted : Spotted s i (formsOf (f .chunk)) r
   spotted = w .at (before (f .chunk) none) (drop e s) [] (sound-holds s e f) refl
 
-  pub spot-form : (a b : ℕ) → r ≡ Here a b → FormIn s a b
-  spot-form a b j = let x : Spotted s i (contentsOf (f .chunk)) (Here a b) = rw j at spotted in (x .0, x .1, x .3, x .4)
+  contents-forms : contentsIn (formsOf (f .chunk)) ≡ contentsOf (f .chunk)
+  contents-forms = contents-of-forms 0 [] (before (f .chunk) none)
 
-  pub view-here : (a b : ℕ) (v : View) → r ≡ Here a b → FormView s a b v → ViewIs s v (viewOf s i)
-  view-here a b v j k =
-      let x : Spotted s i (contentsOf (f .chunk)) (Here a b) = rw j at spotted in
-      rw (f .read, pick-some (contentsOf (f .chunk)) i (contentOf (x .0) (x .1)) (x .2) (x .5)) (k .at (x .0) (x .1) (x .3) (x .4))
+  pub spot-form : (a b : ℕ) → r ≡ Here a b → FormIn s a b
+  spot-form a b j = let x : Spotted s i (formsOf (f .chunk)) (Here a b) = rw j at spotted in (x .0, x .1, x .3, x .4)
+
+  module _ (a b : ℕ) (v : View) (j : r ≡ Here a b) (k : FormView s a b v) where
+    pub view-here : ViewIs s v (viewOf s i)
+    view-here =
+        let x : Spotted s i (formsOf (f .chunk)) (Here a b) = rw j at spotted in
+        let y = pick-some (formsOf (f .chunk)) i (formAt a (x .0) (x .1)) (x .2) (x .5) in
+        rw (f .read, ← contents-forms, y .0) (k .at (x .0) (x .1) (x .3) (x .4))
+
+    pub placed-here : Placed s i v
+    placed-here =
+        let x : Spotted s i (formsOf (f .chunk)) (Here a b) = rw j at spotted in
+        let y = pick-some (formsOf (f .chunk)) i (formAt a (x .0) (x .1)) (x .2) (x .5) in
+        let z =
+        begins-same v (λ name. propertyAt name (a + 12) (x .0) (x .1)) (λ name. placeAmong (formsOf (f .chunk)) i name) (y .1)
+        (k .starts (x .0) (x .1) (x .3) (x .4)) in
+        record { at = rw (f .read) z }
 
   pub view-left : (m : ℕ) → r ≡ Left m → viewOf s i ≡ unseen 20 0
   view-left m j =
-      let x : Spotted s i (contentsOf (f .chunk)) (Left m) = rw j at spotted in
-      let d : drop i (contentsOf (f .chunk)) ≡ [] = rw append-nil at (x []) ∙ drop-none m in
-      rw (f .read) (pick-none (contentsOf (f .chunk)) i d)
+      let x : Spotted s i (formsOf (f .chunk)) (Left m) = rw j at spotted in
+      let d : drop i (formsOf (f .chunk)) ≡ [] = rw append-nil at (x []) ∙ drop-none m in
+      rw (f .read, ← contents-forms) (pick-none (formsOf (f .chunk)) i d)
 
 refused-view : (s : List ℕ) (i : ℕ) (f : Found Chunk) (k p : ℕ) → Refused k p ≡ verdictOf s f → viewIn f i ≡ unseen k p
 refused-view s i (found c) k p e = absurd (let z : _≡_ {A = ℕ} 0 1 = cc in omega arith)

@@ -13,7 +13,7 @@ use tree::check;
 ghost use mathlib.Core.Path.{_≡_};
 ghost use Prim.Native.Nat.{ℕ, _+_, _≤_};
 ghost use Rattle.ilbm.specs.Pictures.{headerFault, viewOf};
-ghost use Rattle.view.specs.Seen.{Sized, Full, SizeTold, TriplesTold, SizesTold, FaultTold, ViewIs, FormIn, FormView};
+ghost use Rattle.view.specs.Seen.{Sized, Full, SizeTold, TriplesTold, SizesTold, FaultTold, ViewIs, Placed, FormIn, FormView};
 ghost use Rattle.flat.specs.Coming.{Sound};
 ghost use Rattle.members.specs.declared.Part.the-variants.{Between};
 
@@ -146,7 +146,8 @@ fn view_form(s: &[u8], form: usize, prop: usize) -> View
 // The picture of number i in a sound file that ends at a place.
 fn view_sound(s: &[u8], end: usize, i: usize) -> View
     requires { ⌜ Sound (now s) end ⌝ }
-    ensures { λ r. ⌜ ViewIs (now (s .entry)) r (viewOf (now (s .entry)) i) ⌝ }
+    ensures seen { λ r. ⌜ ViewIs (now (s .entry)) r (viewOf (now (s .entry)) i) ⌝ }
+    ensures placed { λ r. ⌜ Placed (now (s .entry)) i r ⌝ }
 {
     let spot = seek(s, 0, end, 0, i);
     match spot {
@@ -157,7 +158,8 @@ fn view_sound(s: &[u8], end: usize, i: usize) -> View
 
 // The picture of number i in any bytes.
 pub fn view_picture(s: &[u8], i: usize) -> View
-    ensures { λ r. ⌜ ViewIs (now (s .entry)) r (viewOf (now (s .entry)) i) ⌝ }
+    ensures seen { λ r. ⌜ ViewIs (now (s .entry)) r (viewOf (now (s .entry)) i) ⌝ }
+    ensures placed { λ r. ⌜ Placed (now (s .entry)) i r ⌝ }
 {
     let v = check(s);
     match v {

@@ -1,6 +1,6 @@
--- What is stored is what `palette_parts` tells of the view: the part holds the data of the CMAP that counts, if one does.
+-- What is stored is what `palette_parts` tells of the view: the part begins at the place of the CMAP that counts and holds its data.
 use borrow.Author.Needs.{needs}
-use Rattle.florinhado.proofs.Properties.{palette-told, palette-lies}
+use Rattle.florinhado.proofs.Properties.{palette-told, palette-part}
 use Rattle.florinhado.proofs.ilbm_palette.Statement.{statement}
 use Rattle.florinhado.proofs.ilbm_palette.Tie as tie
 use Rattle.florinhado.proofs.ilbm_palette.Reads as reads
@@ -15,7 +15,7 @@ palette-parts-requires : tie.Need-palette-parts-requires
 palette-parts-requires c κs = search needs
 
 returns : tie.Need-returns
-returns c = search (palette-told, palette-lies, needs)
+returns c = search (palette-told, palette-part, needs)
 
 pub ilbm-palette-spec : {M : Type 1} → statement M
 ilbm-palette-spec = tie.close (tie.spec view-picture-requires palette-parts-requires returns)

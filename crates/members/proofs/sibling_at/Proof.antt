@@ -1,4 +1,5 @@
 -- Each way through the code takes the same branch of the definition; the places it reads lie inside by laws of Laws.antt.
+use mathlib.Core.Path.{refl}
 use native.Mathlib.Omega.{arith}
 use Rattle.members.proofs.Laws.{row-room, front-read, sibling-inside}
 use borrow.Author.Needs.{needs}
@@ -45,7 +46,7 @@ returns c =
     let l = c .before .before .before .pre .1 in
     let a = c .name-at .ensures in
     let b = c .before .size-at .ensures .0 in
-    record { front = front-read _ _ _ _ _ a b l; later = omega arith; inside = sibling-inside _ _ _ _ _ a b l r }
+    record { front = front-read _ _ _ _ _ a b l; starts = refl; later = omega arith; inside = sibling-inside _ _ _ _ _ a b l r }
 
 pub sibling-at-spec : {M : Type 1} → statement M
 sibling-at-spec =

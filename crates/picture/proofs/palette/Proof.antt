@@ -1,6 +1,6 @@
 -- Each way through the code takes the same branch of the definition; the places it reads lie inside by laws of Laws.antt.
 use borrow.Author.Needs.{needs}
-use Rattle.picture.proofs.Laws.{seen-judged, palette-seen, palette-unseen}
+use Rattle.picture.proofs.Laws.{seen-judged, palette-seen, palette-unseen, answer-seen, answer-unseen}
 use Rattle.picture.proofs.palette.Statement.{statement}
 use Rattle.picture.proofs.palette.Tie as tie
 use Rattle.picture.proofs.palette.Reads as reads
@@ -17,8 +17,8 @@ enum-known-v c = search needs
 palette-in-requires : tie.Need-palette-in-requires
 palette-in-requires c κs = search (seen-judged, needs)
 
-enum-told : tie.Need-enum-told
-enum-told c = search needs
+enum-known-v-2 : tie.Need-enum-known-v-2
+enum-known-v-2 c = search needs
 
 sub-result : tie.Need-sub-result
 sub-result c = search needs
@@ -30,10 +30,10 @@ part-result-end : tie.Need-part-result-end
 part-result-end c = search needs
 
 returns : tie.Need-returns
-returns c = search (palette-seen, needs)
+returns c = search (palette-seen, answer-seen, needs)
 
 returns-2 : tie.Need-returns-2
-returns-2 c = search (palette-unseen, needs)
+returns-2 c = search (palette-unseen, answer-unseen, needs)
 
 pub palette-spec : {M : Type 1} → statement M
 palette-spec =
@@ -42,7 +42,7 @@ palette-spec =
     view-picture-requires
     enum-known-v
     palette-in-requires
-    enum-told
+    enum-known-v-2
     sub-result
     part-result-start
     part-result-end

@@ -25,11 +25,11 @@ same-length c = search needs
 
 returns : tie.Need-returns
 returns c =
-    line-seen _ _ _ (c .before .before .before .before .before .before .before .view-picture .ensures) _ _ _ _ _ (c .before .before .before .before .before .v .given .1)
+    line-seen _ _ _ (c .before .before .before .before .before .before .before .view-picture .ensures .0) _ _ _ _ _ (c .before .before .before .before .before .v .given .1)
     (c .before .before .picture-line .ensures)
 
 returns-2 : tie.Need-returns-2
-returns-2 c = line-unseen _ _ _ (c .before .before .before .view-picture .ensures) _ _ _ _ (c .before .v2 .given .1)
+returns-2 c = line-unseen _ _ _ (c .before .before .before .view-picture .ensures .0) _ _ _ _ (c .before .v2 .given .1)
 
 pub scan-line-spec : {M : Type 1} → statement M
 scan-line-spec =

@@ -25,11 +25,11 @@ same-length c = search needs
 
 returns : tie.Need-returns
 returns c =
-    frame-seen _ _ _ (c .before .before .before .before .before .before .before .view-picture .ensures) _ _ _ _ (c .before .before .before .before .before .v .given .1)
+    frame-seen _ _ _ (c .before .before .before .before .before .before .before .view-picture .ensures .0) _ _ _ _ (c .before .before .before .before .before .v .given .1)
     (c .before .before .picture-frame .ensures)
 
 returns-2 : tie.Need-returns-2
-returns-2 c = frame-unseen _ _ _ (c .before .before .before .view-picture .ensures) _ _ _ (c .before .v2 .given .1)
+returns-2 c = frame-unseen _ _ _ (c .before .before .before .view-picture .ensures .0) _ _ _ (c .before .v2 .given .1)
 
 pub whole-frame-spec : {M : Type 1} → statement M
 whole-frame-spec =

@@ -1,5 +1,5 @@
 -- Each way through the code takes the same branch of the definition; the places it reads lie inside by laws of ViewLaws.antt.
-use Rattle.view.proofs.ViewLaws.{sound-row, no-scope, spot-form, view-here, view-left}
+use Rattle.view.proofs.ViewLaws.{sound-row, no-scope, spot-form, view-here, placed-here, view-left}
 use borrow.Author.Needs.{needs}
 use Rattle.view.proofs.view_sound.Statement.{statement}
 use Rattle.view.proofs.view_sound.Tie as tie
@@ -21,7 +21,7 @@ enum-told : tie.Need-enum-told
 enum-told c = search needs
 
 returns : tie.Need-returns
-returns c = search (view-here, needs)
+returns c = search (view-here, placed-here, needs)
 
 returns-2 : tie.Need-returns-2
 returns-2 c = search (view-left, needs)
