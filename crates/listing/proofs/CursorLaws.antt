@@ -11,11 +11,13 @@ use Rattle.name.specs.declared.Kind.{Kind}
 use Rattle.name.specs.declared.Name.{Name}
 use Rattle.chunk.specs.Chunks.{word}
 use Rattle.chunk.specs.Rules.{isGroup}
+use Rattle.listing.specs.declared.Record.{Record}
 use Rattle.listing.specs.declared.Cursor.{Cursor}
 use Rattle.listing.specs.declared.Listed.the-variants.{Chunk as Listed-chunk}
 use Rattle.listing.specs.Records.{recordOf}
-use Rattle.listing.specs.Cursors.{countOf, nameAt, openLevel, entered, passed, Enterable, Passable, Located}
-use Rattle.listing.specs.Walk.{located-record, located-header, located-type, located-enterable, located-enter, located-passable, located-pass}
+use Rattle.listing.specs.Cursors.{countOf, nameAt, recordAt, openLevel, entered, passed, Enterable, Passable, Located}
+use Rattle.listing.specs.Walk.{located-record}
+use Rattle.listing.specs.Anywhere.{groupAt, onwardAt, Lies, lies-known, located-lies, located-onward, onward-number}
 
 -- groups that end at a place
 
@@ -47,64 +49,75 @@ open-end ends p (suc (suc l)) v h u = absurd (omega arith)
 name-is : (m : Name) (n : ℕ) → m .code ≡ n → m ≡ record { code = n }
 name-is m n e = ap (λ (k : ℕ). record { code = k }) e
 
-module _ (s : List ℕ) (cur : Cursor) (at : Located s cur) (more : cur .number < countOf s) where
+module _ (s : List ℕ) (cur : Cursor) (at : Lies s cur) where
   pub named : cur .place + 4 ≤ length s
-  named = omega (arith, located-header s cur at more)
+  named = omega (arith, at .header)
 
   pub sized : cur .place + 4 + 4 ≤ length s
-  sized = omega (arith, located-header s cur at more)
+  sized = omega (arith, at .header)
 
   module _
       (n : ℕ) (a : n ≡ word s (cur .place)) (z : ℕ) (b : z ≡ word s (cur .place + 4)) (k : Kind) (d : k ≡ kindOf n) (g : Bool) (e : g ≡ isGroup k)
     where
-      here : (x : Bool) → g ≡ x → isGroup (kindOf (word s (cur .place))) ≡ x
+      here : (x : Bool) → g ≡ x → groupAt s cur ≡ x
       here x i = rw (← a, ← d, ← e) i
 
       told :
           (m : Name) → m .code ≡ nameAt s (cur .place) →
-          Listed-chunk (record { number = cur .number; level = cur .level; kind = k; name = m; place = cur .place; size = z }) ≡ recordOf s (cur .number)
+          record { number = cur .number; level = cur .level; kind = k; name = m; place = cur .place; size = z } ≡ recordAt s (cur .level) (cur .number) (cur .place)
       told m f =
           let name : m ≡ record { code = nameAt s (cur .place) } = name-is m _ f in
           let kind : k ≡ kindOf (word s (cur .place)) = d ∙ ap kindOf a in
-          cc (located-record s cur at more)
+          cc
 
       pub typed : g ≡ true → cur .place + 8 + 4 ≤ length s
-      typed i = omega (arith, located-type s cur at more (here true i))
+      typed i = omega (arith, at .type (here true i))
 
       pub group-told :
           g ≡ true → (m : Name) → m .code ≡ word s (cur .place + 8) →
-          Listed-chunk (record { number = cur .number; level = cur .level; kind = k; name = m; place = cur .place; size = z }) ≡ recordOf s (cur .number)
+          record { number = cur .number; level = cur .level; kind = k; name = m; place = cur .place; size = z } ≡ recordAt s (cur .level) (cur .number) (cur .place)
       group-told i m f = told m (rw (here true i) f)
 
       pub leaf-told :
           g ≡ false → (m : Name) → n ≡ m .code →
-          Listed-chunk (record { number = cur .number; level = cur .level; kind = k; name = m; place = cur .place; size = z }) ≡ recordOf s (cur .number)
+          record { number = cur .number; level = cur .level; kind = k; name = m; place = cur .place; size = z } ≡ recordAt s (cur .level) (cur .number) (cur .place)
       leaf-told i m f = told m (rw (here false i) (sym f ∙ a))
 
       -- where the cursor goes
 
       pub enters : g ≡ true → Enterable cur z
-      enters i = rw b (located-enterable s cur at more (here true i))
+      enters i = rw b (at .into (here true i))
 
-      pub enter-located : g ≡ true → (r : Cursor) → r ≡ entered cur z → Located s r
-      enter-located i r f = rw (f, b) (located-enter s cur at more (here true i))
+      pub enter-onward : g ≡ true → (r : Cursor) → r ≡ entered cur z → r ≡ onwardAt s cur
+      enter-onward i r f = rw (here true i, ← b) f
 
       pub passes : g ≡ false → Passable cur z
-      passes i = rw b (located-passable s cur at more (here false i))
+      passes i = rw b (at .past (here false i))
 
-      pub pass-located : g ≡ false → (r : Cursor) → r ≡ passed cur z → Located s r
-      pass-located i r f = rw (f, b) (located-pass s cur at more (here false i))
+      pub pass-onward : g ≡ false → (r : Cursor) → r ≡ passed cur z → r ≡ onwardAt s cur
+      pass-onward i r f = rw (here false i, ← b) f
 
-pub enter-number : (r cur : Cursor) (z : ℕ) → r ≡ entered cur z → r .number ≡ cur .number + 1
-enter-number r cur z e = rw e
+-- a located cursor
 
-pub pass-number : (r cur : Cursor) (z : ℕ) → r ≡ passed cur z → r .number ≡ cur .number + 1
-pass-number r cur z e = rw e
+module _ (s : List ℕ) (cur : Cursor) (at : Located s cur) (more : cur .number < countOf s) where
+  pub file-lies : Lies s cur
+  file-lies = lies-known s cur (located-lies s cur at more)
+
+  pub file-record : (r : Record) → r ≡ recordAt s (cur .level) (cur .number) (cur .place) → Listed-chunk r ≡ recordOf s (cur .number)
+  file-record r e = ap (λ (x : Record). Listed-chunk x) e ∙ sym (located-record s cur at more)
+
+  pub file-onward : (r : Cursor) → r ≡ onwardAt s cur → Located s r
+  file-onward r e = rw e (located-onward s cur at more)
+
+  pub file-number : (r : Cursor) → r ≡ onwardAt s cur → r .number ≡ cur .number + 1
+  file-number r e = ap (λ (x : Cursor). x .number) e ∙ onward-number s cur
+
+pub ruleset file-laws = (file-lies, file-record, file-onward, file-number)
+
+-- the parts of the cursor that is gone to
 
 padded : (p z : ℕ) → p + 8 + (z + 1) / 2 * 2 ≡ p + 8 + z + z % 2
 padded p z = omega arith
-
--- the level is the open one
 
 module _ (cur : Cursor) (z l : ℕ) where
   pub enter-told :
@@ -121,4 +134,4 @@ pub ruleset open-laws = (open-more, open-stop, open-end)
 
 pub ruleset at-laws = (named, sized, typed, group-told, leaf-told)
 
-pub ruleset move-laws = (named, sized, enters, enter-located, passes, pass-located, enter-number, pass-number, enter-told, pass-told)
+pub ruleset move-laws = (named, sized, enters, enter-onward, passes, pass-onward, enter-told, pass-told)

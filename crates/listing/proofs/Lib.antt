@@ -1,3 +1,4 @@
 pub mod CursorLaws
 pub mod RecordLaws
 pub mod DataLaws
+pub mod AnywhereLaws

@@ -4,3 +4,4 @@ pub mod Steps
 pub mod Walk
 pub mod Contents
 pub mod Data
+pub mod Anywhere

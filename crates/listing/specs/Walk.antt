@@ -6,7 +6,7 @@ use mathlib.Core.List.{List, [], _∷_, _++_, append-nil}
 use native.Mathlib.Omega.{arith}
 use lib.ListN.{length, drop, length-drop, replicate}
 use Rattle.name.specs.Name.{kindOf}
-use Rattle.chunk.specs.Chunks.{Chunks, none, leaf, group, Chunk, aLeaf, aGroup, before, bytes, count, word}
+use Rattle.chunk.specs.Chunks.{Chunks, none, leaf, group, Chunk, aLeaf, aGroup, before, bytes, count, word, nextAt}
 use Rattle.chunk.specs.Rules.{isGroup}
 use Rattle.tree.specs.Judge.{Found, found, refused, readFile, verdictOf, checkOf}
 use Rattle.tree.specs.declared.Verdict.the-variants.{Accepted, Refused as Verdict-refused}
@@ -89,6 +89,10 @@ module _ (s : List ℕ) (cur : Cursor) (at : Located s cur) where
             deep = omega (arith, h .level, h .rows .1);
           })
 
+      pub located-past : nextAt s (cur .place) ≤ length s
+      unfolding Here
+      located-past = by-leaf _ (λ c d pd F Fs h. leaf-past (at .short) h)
+
       -- A chunk that is no group is passed.
       pub located-pass : Located s (passed cur (word s (cur .place + 4)))
       unfolding Here
@@ -102,6 +106,10 @@ module _ (s : List ℕ) (cur : Cursor) (at : Located s cur) where
       pub located-type : cur .place + 12 ≤ length s
       unfolding Here
       located-type = by-group _ (λ c t G F Fs h. group-room (at .short) h)
+
+      pub located-end : cur .place + 8 + word s (cur .place + 4) ≤ length s
+      unfolding Here
+      located-end = by-group _ (λ c t G F Fs h. group-end (at .short) h)
 
       pub located-enterable : Enterable cur (word s (cur .place + 4))
       unfolding Here

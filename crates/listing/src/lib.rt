@@ -6,7 +6,8 @@ ghost use mathlib.Core.Path.{_≡_};
 ghost use Prim.Native.Nat.{_+_, _≤_, _<_};
 ghost use Rattle.listing.specs.Records.{recordOf};
 ghost use Rattle.listing.specs.Contents.{extentIn, extentOf, dataOf};
-ghost use Rattle.listing.specs.Cursors.{countOf, firstCursor, openLevel, entered, passed, Enterable, Passable, Located};
+ghost use Rattle.listing.specs.Cursors.{countOf, firstCursor, recordAt, openLevel, entered, passed, Enterable, Passable, Located};
+ghost use Rattle.listing.specs.Anywhere.{groupLies, plainLies, liesAt, readAt, onwardAt, movedAt, Lies};
 
 // One chunk of a file. A group is told by its type, any other chunk by its name; the size leaves out the pad.
 pub struct Record {
@@ -65,10 +66,10 @@ fn open_level(ends: &[usize; 16], place: usize, level: usize) -> usize
     l
 }
 
-// The record of the chunk at the cursor.
-pub fn record_at(s: &[u8], cur: Cursor) -> Record
-    requires { ⌜ (Located (now s) cur) × (cur .number < countOf (now s)) ⌝ }
-    ensures { λ r. ⌜ Listed.Chunk r ≡ recordOf (now (s .entry)) (cur .number) ⌝ }
+// The record that the header at the cursor gives.
+fn header_at(s: &[u8], cur: Cursor) -> Record
+    requires { ⌜ Lies (now s) cur ⌝ }
+    ensures { λ r. ⌜ r ≡ recordAt (now (s .entry)) (cur .level) (cur .number) (cur .place) ⌝ }
 {
     let p = cur.place;
     let n = chunk::name_at(s, p);
@@ -92,6 +93,14 @@ pub fn record_at(s: &[u8], cur: Cursor) -> Record
         place: p,
         size,
     }
+}
+
+// The record of the chunk at the cursor.
+pub fn record_at(s: &[u8], cur: Cursor) -> Record
+    requires { ⌜ (Located (now s) cur) × (cur .number < countOf (now s)) ⌝ }
+    ensures { λ r. ⌜ Listed.Chunk r ≡ recordOf (now (s .entry)) (cur .number) ⌝ }
+{
+    header_at(s, cur)
 }
 
 // The cursor at the first member of the group at it, whose size is z, or behind the group.
@@ -129,10 +138,10 @@ fn pass(cur: Cursor, z: usize) -> Cursor
     }
 }
 
-// The cursor at the next chunk: a group's first member, or what stands behind the chunk.
-pub fn advance(s: &[u8], cur: Cursor) -> Cursor
-    requires { ⌜ (Located (now s) cur) × (cur .number < countOf (now s)) ⌝ }
-    ensures { λ r. ⌜ (Located (now (s .entry)) r) × (r .number ≡ cur .number + 1) ⌝ }
+// Where the cursor goes from the chunk at it: to a group's first member, or behind the chunk.
+fn onward(s: &[u8], cur: Cursor) -> Cursor
+    requires { ⌜ Lies (now s) cur ⌝ }
+    ensures { λ r. ⌜ r ≡ onwardAt (now (s .entry)) cur ⌝ }
 {
     let p = cur.place;
     let n = chunk::name_at(s, p);
@@ -141,6 +150,97 @@ pub fn advance(s: &[u8], cur: Cursor) -> Cursor
         return enter(cur, z);
     }
     pass(cur, z)
+}
+
+// The cursor at the next chunk.
+pub fn advance(s: &[u8], cur: Cursor) -> Cursor
+    requires { ⌜ (Located (now s) cur) × (cur .number < countOf (now s)) ⌝ }
+    ensures { λ r. ⌜ (Located (now (s .entry)) r) × (r .number ≡ cur .number + 1) ⌝ }
+{
+    onward(s, cur)
+}
+
+// Whether a group of level l and size z at p lies in a file of n bytes, at a level that a group can have.
+fn group_lies(n: usize, p: usize, l: usize, z: usize) -> bool
+    requires { ⌜ (n ≤ 16777216) × (p ≤ n) × (z < 4294967296) ⌝ }
+    ensures { λ r. ⌜ r ≡ groupLies n p l z ⌝ }
+{
+    if n < p + 12 {
+        return false;
+    }
+    if n < p + 8 + z {
+        return false;
+    }
+    if l < 1 {
+        return false;
+    }
+    if 16 < l {
+        return false;
+    }
+    true
+}
+
+// Whether a chunk of level l with z bytes of data at p lies in a file of n bytes, at a level that a chunk can have.
+fn plain_lies(n: usize, p: usize, l: usize, z: usize) -> bool
+    requires { ⌜ (n ≤ 16777216) × (p ≤ n) × (z < 4294967296) ⌝ }
+    ensures { λ r. ⌜ r ≡ plainLies n p l z ⌝ }
+{
+    if n < p + 8 + (z + 1) / 2 * 2 {
+        return false;
+    }
+    if 17 < l {
+        return false;
+    }
+    true
+}
+
+// Whether a chunk lies at a cursor, which may be any: its header, its data or its type, and the level are tested.
+pub fn lies_at(s: &[u8], cur: Cursor) -> bool
+    ensures { λ r. ⌜ r ≡ liesAt (now (s .entry)) cur ⌝ }
+{
+    let n = s.len();
+    let p = cur.place;
+    if 16777216 < n {
+        return false;
+    }
+    if p < cur.number {
+        return false;
+    }
+    if n < p {
+        return false;
+    }
+    if n < p + 8 {
+        return false;
+    }
+    let c = chunk::name_at(s, p);
+    let z = chunk::size_at(s, p + 4);
+    if chunk::is_group(c.kind()) {
+        return group_lies(n, p, cur.level, z);
+    }
+    plain_lies(n, p, cur.level, z)
+}
+
+// The record that the header at a cursor gives, which may be any; 14 where no chunk lies.
+pub fn read_at(s: &[u8], cur: Cursor) -> Listed
+    ensures { λ r. ⌜ r ≡ readAt (now (s .entry)) cur ⌝ }
+{
+    if lies_at(s, cur) {
+        return Listed::Chunk(header_at(s, cur));
+    }
+    Listed::Refused {
+        number: 14,
+        place: 0,
+    }
+}
+
+// The cursor at the next chunk, from any cursor; the same cursor where no chunk lies.
+pub fn moved(s: &[u8], cur: Cursor) -> Cursor
+    ensures { λ r. ⌜ r ≡ movedAt (now (s .entry)) cur ⌝ }
+{
+    if lies_at(s, cur) {
+        return onward(s, cur);
+    }
+    cur
 }
 
 // The record of a number below the count, in a file that is accepted.

@@ -1,35 +1,91 @@
 -- One law for each way through the functions on which a reader rests, in the form in which the code's needs have it.
-use Prim.Native.Nat.{ℕ, _+_, _≤_, _<_}
+use Prim.Native.Nat.{ℕ, _+_, _-_, _≤_, _<_}
 use mathlib.Core.Path.{_≡_, sym, ap, _∙_}
 use mathlib.Core.List.{List}
-use borrow.Author.Tests.{lt-ltb, le-ltb}
+use native.Mathlib.Omega.{arith}
+use native.Mathlib.Numerals.{add-one}
+use borrow.Author.Tests.{le-leb, lt-leb}
 use Rattle.tree.specs.Judge.{checkOf}
 use Rattle.tree.specs.declared.Verdict.{Verdict}
 use Rattle.tree.specs.declared.Verdict.the-variants.{Accepted, Refused as Verdict-refused}
+use Rattle.grammar.specs.Words.{Bytes}
 use Rattle.listing.specs.declared.Record.{Record}
+use Rattle.listing.specs.declared.Cursor.{Cursor}
 use Rattle.listing.specs.declared.Listed.{Listed}
 use Rattle.listing.specs.declared.Listed.the-variants.{Chunk as Listed-chunk, Refused}
-use Rattle.listing.specs.Records.{recordOf}
+use Rattle.listing.specs.Cursors.{countOf, firstCursor}
+use Rattle.listing.specs.Anywhere.{readAt, movedAt}
+use Rattle.reader.specs.declared.Place.{Place}
+use Rattle.reader.specs.declared.Step.{Step}
 use Rattle.reader.specs.declared.Step.the-variants.{Chunk, End}
 use Rattle.reader.specs.declared.Opening.the-variants.{Accepted as Opening-accepted, Refused as Opening-refused}
-use Rattle.reader.specs.Reading.{stepIn, stepOf, openingIn, openingOf, afterOf}
+use Rattle.reader.specs.Reading.{openingIn, openingOf, firstPlace, stepIn, stepAt, placeAfter}
+use Rattle.reader.specs.Agree.{placeOf, given-below, ended-behind, number-small}
 
-pub after-more : (n : ℕ) → n < 18446744073709551615 → n + 1 ≡ afterOf n
-after-more n h = rw (lt-ltb n 18446744073709551615 h)
+-- by the verdict of the check
 
-pub after-last : (n : ℕ) → 18446744073709551615 ≤ n → n ≡ afterOf n
-after-last n h = rw (le-ltb n 18446744073709551615 h)
+module _ (s : List ℕ) (v : Verdict) (d : v ≡ checkOf s) where
+  pub opening-accepted : (n a t : ℕ) → v ≡ Accepted n a t → Opening-accepted ≡ openingOf s
+  opening-accepted n a t e = ap openingIn (sym e ∙ d)
 
-pub step-chunk : (s : List ℕ) (i : ℕ) (l : Listed) (r : Record) → l ≡ recordOf s i → l ≡ Listed-chunk r → Chunk r ≡ stepOf s i
-step-chunk s i l r d e = ap stepIn (sym e ∙ d)
+  pub opening-refused : (k p : ℕ) → v ≡ Verdict-refused k p → Opening-refused k p ≡ openingOf s
+  opening-refused k p e = ap openingIn (sym e ∙ d)
 
-pub step-end : (s : List ℕ) (i : ℕ) (l : Listed) (k p : ℕ) → l ≡ recordOf s i → l ≡ Refused k p → End ≡ stepOf s i
-step-end s i l k p d e = ap stepIn (sym e ∙ d)
+  module _ (c : Cursor) (f : c ≡ firstCursor) where
+    pub first-accepted : (n a t : ℕ) → v ≡ Accepted n a t → record { cursor = c; chunks = n } ≡ firstPlace s
+    first-accepted n a t e = rw (f, sym d ∙ e)
 
-pub opening-accepted : (s : List ℕ) (v : Verdict) (n a t : ℕ) → v ≡ checkOf s → v ≡ Accepted n a t → Opening-accepted ≡ openingOf s
-opening-accepted s v n a t d e = ap openingIn (sym e ∙ d)
+    pub first-refused : (k p : ℕ) → v ≡ Verdict-refused k p → record { cursor = c; chunks = 0 } ≡ firstPlace s
+    first-refused k p e = rw (f, sym d ∙ e)
 
-pub opening-refused : (s : List ℕ) (v : Verdict) (k p : ℕ) → v ≡ checkOf s → v ≡ Verdict-refused k p → Opening-refused k p ≡ openingOf s
-opening-refused s v k p d e = ap openingIn (sym e ∙ d)
+-- at a place
 
-pub ruleset reader-laws = (after-more, after-last, step-chunk, step-end, opening-accepted, opening-refused)
+module _ (s : List ℕ) (p : Place) where
+  pub step-last : p .chunks ≤ p .cursor .number → End ≡ stepAt s p
+  step-last h = rw (le-leb (p .chunks) (p .cursor .number) h)
+
+  pub after-last : p .chunks ≤ p .cursor .number → p ≡ placeAfter s p
+  after-last h = rw (le-leb (p .chunks) (p .cursor .number) h)
+
+  module _ (h : p .cursor .number < p .chunks) where
+    pub step-chunk : (l : Listed) (r : Record) → l ≡ readAt s (p .cursor) → l ≡ Listed-chunk r → Chunk r ≡ stepAt s p
+    step-chunk l r d e = rw (lt-leb (p .chunks) (p .cursor .number) h) (ap stepIn (sym e ∙ d))
+
+    pub step-none : (l : Listed) (k q : ℕ) → l ≡ readAt s (p .cursor) → l ≡ Refused k q → End ≡ stepAt s p
+    step-none l k q d e = rw (lt-leb (p .chunks) (p .cursor .number) h) (ap stepIn (sym e ∙ d))
+
+    pub after-more : (c : Cursor) → c ≡ movedAt s (p .cursor) → record { cursor = c; chunks = p .chunks } ≡ placeAfter s p
+    after-more c d = rw (lt-leb (p .chunks) (p .cursor .number) h) (ap (λ (x : Cursor). record { cursor = x; chunks = p .chunks }) d)
+
+pub ruleset reader-laws = (opening-accepted, opening-refused, first-accepted, first-refused, step-last, after-last, step-chunk, step-none, after-more)
+
+-- reading to the end: p is the place after n steps
+
+pub record Counting (s : List ℕ) (p : Place) (n : ℕ) : Type 0 where
+  pub bytes : Bytes s
+  pub place : p ≡ placeOf s n
+  pub below : n ≤ countOf s
+
+pub count-start : (s : List ℕ) (p : Place) → Bytes s → p ≡ firstPlace s → Counting s p 0
+unfolding placeOf
+count-start s p b e = record { bytes = b; place = e; below = omega arith }
+
+module _ (s : List ℕ) (p : Place) (n : ℕ) (h : Counting s p n) (x : Step) (d : x ≡ stepAt s p) where
+  pub count-done : x ≡ End → n ≡ countOf s
+  count-done f = omega (arith, h .below, ended-behind s (h .bytes) n (ap (stepAt s) (sym (h .place)) ∙ sym d ∙ f))
+
+  module _ (r : Record) (f : x ≡ Chunk r) where
+    more : n < countOf s
+    more = given-below s (h .bytes) n r (ap (stepAt s) (sym (h .place)) ∙ sym d ∙ f)
+
+    pub count-small : n < 16777216
+    count-small = number-small s (h .bytes) n more
+
+    pub count-less : countOf s - (n + 1) < countOf s - n
+    count-less = omega (arith, more)
+
+    pub count-on : (q : Place) → q ≡ placeAfter s p → Counting s q (n + 1)
+    unfolding placeOf
+    count-on q e = record { bytes = h .bytes; place = e ∙ rw (h .place, add-one n); below = omega (arith, more) }
+
+pub ruleset count-laws = (count-start, count-done, count-small, count-less, count-on)

@@ -1,14 +1,22 @@
-// A reader that holds the lent file and its place, the number of the next record. Each function over it takes it apart and leaves
-// the work to a function of the slice and the number.
+// A reader that holds the lent file and its place in it. Each function over it takes it apart and leaves the work to a function of
+// the slice and the place, which asks nothing of the place: any place gives a record or the end.
+use listing::Cursor;
 use listing::Listed;
 use listing::Record;
 use tree::Verdict;
 ghost use mathlib.Core.Path.{_≡_};
-ghost use Rattle.reader.specs.Reading.{stepOf, openingOf, afterOf};
+ghost use Rattle.listing.specs.Cursors.{countOf};
+ghost use Rattle.reader.specs.Reading.{openingOf, firstPlace, stepAt, placeAfter};
+
+// Where a reader stands: the cursor at the next chunk, with the ends of the groups around it, and how many chunks there are to read.
+pub struct Place {
+    pub cursor: Cursor,
+    pub chunks: usize,
+}
 
 pub struct Reader<'a> {
     pub file: &'a [u8],
-    pub place: usize,
+    pub place: Place,
 }
 
 // What a reader gives: the record at its place, or that there is none left.
@@ -21,20 +29,6 @@ pub enum Step {
 pub enum Opening {
     Accepted,
     Refused { number: usize, place: usize },
-}
-
-// What a reader of a file gives at a place.
-pub fn step_at(s: &[u8], place: usize) -> Step
-    ensures { λ r. ⌜ r ≡ stepOf (now (s .entry)) place ⌝ }
-{
-    let l = listing::record_by_number(s, place);
-    match l {
-        Listed::Chunk(r) => Step::Chunk(r),
-        Listed::Refused {
-            number: _,
-            place: _,
-        } => Step::End,
-    }
 }
 
 // The structure refusal of a file, if any.
@@ -52,21 +46,84 @@ pub fn opening_of(s: &[u8]) -> Opening
     }
 }
 
-// The place after a place; no file has records at the last one.
-pub fn after(place: usize) -> usize
-    ensures { λ r. ⌜ r ≡ afterOf place ⌝ }
+// The place at a file's first chunk; in a refused file there are none to read.
+pub fn first_place(s: &[u8]) -> Place
+    ensures { λ r. ⌜ r ≡ firstPlace (now (s .entry)) ⌝ }
 {
-    if place < 18446744073709551615 {
-        return place + 1;
+    let cursor = listing::first();
+    let v = tree::check(s);
+    match v {
+        Verdict::Accepted {
+            chunks,
+            end: _,
+            trailing: _,
+        } => Place { cursor, chunks },
+        Verdict::Refused {
+            number: _,
+            place: _,
+        } => Place { cursor, chunks: 0 },
     }
-    place
+}
+
+// What a reader of a file gives at a place.
+pub fn step_at(s: &[u8], place: Place) -> Step
+    ensures { λ r. ⌜ r ≡ stepAt (now (s .entry)) place ⌝ }
+{
+    let cur = place.cursor;
+    if place.chunks <= cur.number {
+        return Step::End;
+    }
+    let l = listing::read_at(s, cur);
+    match l {
+        Listed::Chunk(r) => Step::Chunk(r),
+        Listed::Refused {
+            number: _,
+            place: _,
+        } => Step::End,
+    }
+}
+
+// The place one record further; at the end it stays.
+pub fn place_after(s: &[u8], place: Place) -> Place
+    ensures { λ r. ⌜ r ≡ placeAfter (now (s .entry)) place ⌝ }
+{
+    let here = place.cursor;
+    if place.chunks <= here.number {
+        return place;
+    }
+    let there = listing::moved(s, here);
+    Place {
+        cursor: there,
+        chunks: place.chunks,
+    }
+}
+
+// How many records a reader of a file gives before the end.
+pub fn count_by_reading(s: &[u8]) -> usize
+    ensures { λ r. ⌜ r ≡ countOf (now (s .entry)) ⌝ }
+{
+    let mut place = first_place(s);
+    let mut n = 0usize;
+    loop {
+        let step = step_at(s, place);
+        match step {
+            Step::Chunk(_) => {
+                n = n + 1;
+                place = place_after(s, place);
+            }
+            Step::End => {
+                return n;
+            }
+        }
+    }
 }
 
 // The reader of a file, at its first record.
 pub fn new<'a>(file: &'a [u8]) -> Reader<'a>
-    ensures { λ r. ⌜ (r .file ≡ file .entry) × (r .place ≡ 0) ⌝ }
+    ensures { λ r. ⌜ (r .file ≡ file .entry) × (r .place ≡ firstPlace (now (file .entry))) ⌝ }
 {
-    Reader { file, place: 0 }
+    let place = first_place(file);
+    Reader { file, place }
 }
 
 // What is told of a reader's file: the structure refusal, if any.
@@ -78,16 +135,16 @@ pub fn told<'a>(r: Reader<'a>) -> Opening
 
 // The record at a reader's place, or the end.
 pub fn next<'a>(r: Reader<'a>) -> Step
-    ensures { λ x. ⌜ x ≡ stepOf (now (r .entry .file)) (r .entry .place) ⌝ }
+    ensures { λ x. ⌜ x ≡ stepAt (now (r .entry .file)) (r .entry .place) ⌝ }
 {
     step_at(r.file, r.place)
 }
 
 // The reader one record further.
 pub fn advanced<'a>(r: Reader<'a>) -> Reader<'a>
-    ensures { λ q. ⌜ (q .file ≡ r .entry .file) × (q .place ≡ afterOf (r .entry .place)) ⌝ }
+    ensures { λ q. ⌜ (q .file ≡ r .entry .file) × (q .place ≡ placeAfter (now (r .entry .file)) (r .entry .place)) ⌝ }
 {
-    let place = after(r.place);
+    let place = place_after(r.file, r.place);
     Reader {
         file: r.file,
         place,
@@ -96,7 +153,7 @@ pub fn advanced<'a>(r: Reader<'a>) -> Reader<'a>
 
 // What a new reader gives first.
 pub fn first(s: &[u8]) -> Step
-    ensures { λ r. ⌜ r ≡ stepOf (now (s .entry)) 0 ⌝ }
+    ensures { λ r. ⌜ r ≡ stepAt (now (s .entry)) (firstPlace (now (s .entry))) ⌝ }
 {
     next(new(s))
 }

@@ -1,48 +1,14 @@
--- `advance` meets its contract: a group is entered, any other chunk is passed, and the cursor stays in the file.
-use native.Mathlib.Omega.{arith}
-use Rattle.listing.specs.Walk.{located-place}
-use Rattle.listing.proofs.CursorLaws.{move-laws}
+-- `advance` meets its contract: from a located cursor the walk goes on to a located one.
 use borrow.Author.Needs.{needs}
+use Rattle.listing.proofs.CursorLaws.{file-laws}
 use Rattle.listing.proofs.advance.Statement.{statement}
 use Rattle.listing.proofs.advance.Tie as tie
 
-name-at-requires : tie.Need-name-at-requires
-name-at-requires c κs = search (move-laws, needs)
-
-add-size-at : tie.Need-add-size-at
-add-size-at c = let h = c .before .before .pre in let r = located-place _ _ (h .0) (h .1) in omega arith
-
-size-at-requires : tie.Need-size-at-requires
-size-at-requires c κs = search (move-laws, needs)
-
-kind-requires : tie.Need-kind-requires
-kind-requires c κs = search needs
-
-is-group-requires : tie.Need-is-group-requires
-is-group-requires c κs = search needs
-
-enter-requires : tie.Need-enter-requires
-enter-requires c κs = search (move-laws, needs)
+onward-requires : tie.Need-onward-requires
+onward-requires c κs = search (file-laws, needs)
 
 returns : tie.Need-returns
-returns c = search (move-laws, needs)
-
-pass-requires : tie.Need-pass-requires
-pass-requires c κs = search (move-laws, needs)
-
-returns-2 : tie.Need-returns-2
-returns-2 c = search (move-laws, needs)
+returns c = search (file-laws, needs)
 
 pub advance-spec : {M : Type 1} → statement M
-advance-spec =
-    tie.close
-    (tie.spec
-    name-at-requires
-    add-size-at
-    size-at-requires
-    kind-requires
-    is-group-requires
-    enter-requires
-    returns
-    pass-requires
-    returns-2)
+advance-spec = tie.close (tie.spec onward-requires returns)

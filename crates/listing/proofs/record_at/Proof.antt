@@ -1,48 +1,14 @@
--- `record_at` meets its contract: the chunk is there, and its record is what its header says.
-use Rattle.listing.proofs.CursorLaws.{at-laws}
-use native.Mathlib.Omega.{arith}
-use Rattle.listing.specs.Walk.{located-place}
+-- `record_at` meets its contract: a chunk lies at a located cursor, and its header gives the record of the cursor's number.
 use borrow.Author.Needs.{needs}
+use Rattle.listing.proofs.CursorLaws.{file-laws}
 use Rattle.listing.proofs.record_at.Statement.{statement}
 use Rattle.listing.proofs.record_at.Tie as tie
 
-name-at-requires : tie.Need-name-at-requires
-name-at-requires c κs = search (at-laws, needs)
-
-add-size-at : tie.Need-add-size-at
-add-size-at c = let h = c .before .before .pre in let r = located-place _ _ (h .0) (h .1) in omega arith
-
-size-at-requires : tie.Need-size-at-requires
-size-at-requires c κs = search (at-laws, needs)
-
-kind-requires : tie.Need-kind-requires
-kind-requires c κs = search needs
-
-is-group-requires : tie.Need-is-group-requires
-is-group-requires c κs = search needs
-
-add-name-at : tie.Need-add-name-at
-add-name-at c = let h = c .before .before .before .before .before .before .pre in let r = located-place _ _ (h .0) (h .1) in omega arith
-
-name-at-requires-2 : tie.Need-name-at-requires-2
-name-at-requires-2 c κs = search (at-laws, needs)
+header-at-requires : tie.Need-header-at-requires
+header-at-requires c κs = search (file-laws, needs)
 
 returns : tie.Need-returns
-returns c = search (at-laws, needs)
-
-returns-2 : tie.Need-returns-2
-returns-2 c = search (at-laws, needs)
+returns c = search (file-laws, needs)
 
 pub record-at-spec : {M : Type 1} → statement M
-record-at-spec =
-    tie.close
-    (tie.spec
-    name-at-requires
-    add-size-at
-    size-at-requires
-    kind-requires
-    is-group-requires
-    add-name-at
-    name-at-requires-2
-    returns
-    returns-2)
+record-at-spec = tie.close (tie.spec header-at-requires returns)
