@@ -1,5 +1,6 @@
 //! The library beside the second reader.
 
+pub mod bodies;
 mod borrowed;
 mod calls;
 pub mod fixed;
