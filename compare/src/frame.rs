@@ -2,7 +2,7 @@
 
 use crate::borrowed::{numbers, refused, same, Buffer};
 use crate::{Call, Outcome, Subject, Tally};
-use florinhado::calls;
+use florinhado::{calls, Refused};
 use second::generate::query;
 use second::random::Random;
 
@@ -19,22 +19,33 @@ fn run(file: &[u8]) {
 }
 
 fn compare(subject: &Subject, random: &mut Random, tally: &mut Tally) -> Outcome {
-    let file = subject.file();
-    let asked = query(random, file);
-    let wanted = second::frame(file, asked.picture, asked.frame_length).map_err(refused);
+    let asked = query(random, subject.file());
+    let told = ask(subject.file(), asked.picture, asked.frame_length, random)?;
+    tally.add(NAME, told.number);
+    Ok(())
+}
+
+/// Compares the frame of a picture, and gives the number and place told.
+pub(crate) fn ask(
+    file: &[u8],
+    picture: usize,
+    length: usize,
+    random: &mut Random,
+) -> Result<Refused, String> {
+    let wanted = second::frame(file, picture, length).map_err(refused);
     let result = wanted.as_ref().map_or(&[][..], |frame| &frame.colours);
     let [mut place, mut leftover] = numbers(random);
-    let mut buffer = Buffer::new(random, asked.frame_length);
-    let answer = calls::ilbm_frame(file, asked.picture, buffer.slice(), &mut place, &mut leftover);
-    tally.add(NAME, answer);
+    let mut buffer = Buffer::new(random, length);
+    let number = calls::ilbm_frame(file, picture, buffer.slice(), &mut place, &mut leftover);
     let told = match &wanted {
         Ok(frame) => [0, 0, frame.leftover],
         Err(refused) => [refused.number, refused.place, 0],
     };
-    same("number, place, leftover", [answer, place, leftover], told)?;
+    same("number, place, leftover", [number, place, leftover], told)?;
     buffer.compare(result)?;
-    let mut buffer = Buffer::new(random, asked.frame_length);
-    let ours = florinhado::frame(file, asked.picture, buffer.slice());
+    let mut buffer = Buffer::new(random, length);
+    let ours = florinhado::frame(file, picture, buffer.slice());
     same("frame", ours, wanted.as_ref().map(|frame| frame.leftover).map_err(|refused| *refused))?;
-    buffer.compare(result)
+    buffer.compare(result)?;
+    Ok(Refused { number, place })
 }

@@ -16,6 +16,11 @@ fn header(name: &[u8; 4], size: usize) -> [u8; 8] {
     std::array::from_fn(|n| if n < 4 { name[n] } else { size[n - 4] })
 }
 
+/// A local chunk with its pad byte.
+pub fn chunk(name: &[u8; 4], data: &[u8]) -> Vec<u8> {
+    [&header(name, data.len())[..], data, &[0][..data.len() % 2]].concat()
+}
+
 /// A group with these bytes as its members.
 pub fn group(name: &[u8; 4], kind: &[u8; 4], members: &[u8]) -> Vec<u8> {
     [&header(name, 4 + members.len())[..], kind, members].concat()

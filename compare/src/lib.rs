@@ -3,6 +3,7 @@
 pub mod additions;
 mod answers;
 mod asked;
+pub mod bodies;
 mod borrowed;
 mod calls;
 mod census;

@@ -2,7 +2,7 @@
 
 use crate::borrowed::{numbers, refused, same, Buffer};
 use crate::{Call, Outcome, Subject, Tally};
-use florinhado::calls;
+use florinhado::{calls, Refused};
 use second::generate::query;
 use second::random::Random;
 
@@ -20,22 +20,34 @@ fn run(file: &[u8]) {
 }
 
 fn compare(subject: &Subject, random: &mut Random, tally: &mut Tally) -> Outcome {
-    let file = subject.file();
-    let asked = query(random, file);
-    let wanted = second::scan_line(file, asked.picture, asked.start, asked.row_length).map_err(refused);
+    let asked = query(random, subject.file());
+    let told = ask(subject.file(), asked.picture, asked.start, asked.row_length, random)?;
+    tally.add(NAME, told.number);
+    Ok(())
+}
+
+/// Compares a scan line of a picture, and gives the number and place told.
+pub(crate) fn ask(
+    file: &[u8],
+    picture: usize,
+    start: usize,
+    length: usize,
+    random: &mut Random,
+) -> Result<Refused, String> {
+    let wanted = second::scan_line(file, picture, start, length).map_err(refused);
     let result = wanted.as_ref().map_or(&[][..], |line| &line.colours);
     let [mut place, mut next] = numbers(random);
-    let mut buffer = Buffer::new(random, asked.row_length);
-    let answer = calls::ilbm_line(file, asked.picture, asked.start, buffer.slice(), &mut place, &mut next);
-    tally.add(NAME, answer);
+    let mut buffer = Buffer::new(random, length);
+    let number = calls::ilbm_line(file, picture, start, buffer.slice(), &mut place, &mut next);
     let told = match &wanted {
         Ok(line) => [0, 0, line.next],
         Err(refused) => [refused.number, refused.place, 0],
     };
-    same("number, place, next", [answer, place, next], told)?;
+    same("number, place, next", [number, place, next], told)?;
     buffer.compare(result)?;
-    let mut buffer = Buffer::new(random, asked.row_length);
-    let ours = florinhado::scan_line(file, asked.picture, asked.start, buffer.slice());
+    let mut buffer = Buffer::new(random, length);
+    let ours = florinhado::scan_line(file, picture, start, buffer.slice());
     same("scan_line", ours, wanted.as_ref().map(|line| line.next).map_err(|refused| *refused))?;
-    buffer.compare(result)
+    buffer.compare(result)?;
+    Ok(Refused { number, place })
 }

@@ -2,7 +2,9 @@
 //! build no tree and share no code with the reader but its answers' types.
 
 use crate::answer::{Accepted, Refused};
-use crate::tree::LONGEST_FILE;
+use crate::listing::Record;
+use crate::name::Name;
+use crate::tree::{Kind, LONGEST_FILE};
 use std::collections::HashSet;
 
 /// The chunk whose members are being walked.
@@ -13,8 +15,40 @@ struct Group {
     end: usize,
 }
 
+/// A header that was passed.
+#[derive(Clone, Copy)]
+struct Header {
+    name: [u8; 4],
+    level: u32,
+    place: usize,
+    size: usize,
+}
+
 /// The same answer as `check`, from a walk without a tree.
 pub fn plain_check(file: &[u8]) -> Result<Accepted, Refused> {
+    let mut chunks = 0;
+    let end = walk_file(file, &mut |_| chunks += 1)?;
+    Ok(Accepted { chunks, end, trailing: file.len() - end })
+}
+
+/// The same answer as `record`, from one walk, which is the check too.
+pub fn plain_record(file: &[u8], number: usize) -> Result<Record, Refused> {
+    let mut chunks = 0;
+    let mut found = None;
+    walk_file(file, &mut |header| {
+        if chunks == number {
+            found = Some(header);
+        }
+        chunks += 1;
+    })?;
+    let Header { name, level, place, size } = found.ok_or(Refused { number: 14, place: 0 })?;
+    let kind = kind_of(name);
+    let name = if is_group(name) { four_at(file, place + 8).unwrap_or(name) } else { name };
+    Ok(Record { number, level: level as usize, kind, name: Name(name), place, size })
+}
+
+/// Walks a file header by header; its end, or the refusal.
+fn walk_file(file: &[u8], see: &mut impl FnMut(Header)) -> Result<usize, Refused> {
     if file.len() > LONGEST_FILE {
         return Err(Refused { number: 1, place: 0 });
     }
@@ -28,14 +62,13 @@ pub fn plain_check(file: &[u8]) -> Result<Accepted, Refused> {
         return Err(Refused { number: 2, place: 0 });
     }
     let size = header(file, 0, file.len(), 1, |_| true).map_err(|number| Refused { number, place: 0 })?;
-    let mut chunks = 1;
-    walk(file, Group { name, level: 1, end: 8 + size }, 12, &mut chunks)?;
-    let end = 8 + size + (size & 1);
-    Ok(Accepted { chunks, end, trailing: file.len() - end })
+    see(Header { name, level: 1, place: 0, size });
+    walk(file, Group { name, level: 1, end: 8 + size }, 12, see)?;
+    Ok(8 + size + (size & 1))
 }
 
-/// Walks the members of a group from `place`, counting chunks.
-fn walk(file: &[u8], group: Group, mut place: usize, chunks: &mut usize) -> Result<(), Refused> {
+/// Walks the members of a group from `place`.
+fn walk(file: &[u8], group: Group, mut place: usize, see: &mut impl FnMut(Header)) -> Result<(), Refused> {
     let mut props_over = false;
     let mut types = None;
     while place < group.end {
@@ -44,7 +77,7 @@ fn walk(file: &[u8], group: Group, mut place: usize, chunks: &mut usize) -> Resu
         let refuse = |number| Refused { number, place };
         let size = header(file, place, group.end, level, allow).map_err(refuse)?;
         let name = [file[place], file[place + 1], file[place + 2], file[place + 3]];
-        *chunks += 1;
+        see(Header { name, level, place, size });
         if is_group(name) {
             if &name == b"PROP" {
                 if !types.get_or_insert_with(HashSet::new).insert(four_at(file, place + 8)) {
@@ -53,7 +86,7 @@ fn walk(file: &[u8], group: Group, mut place: usize, chunks: &mut usize) -> Resu
             } else {
                 props_over = true;
             }
-            walk(file, Group { name, level, end: place + 8 + size }, place + 12, chunks)?;
+            walk(file, Group { name, level, end: place + 8 + size }, place + 12, see)?;
         }
         place += 8 + size + (size & 1);
     }
@@ -118,6 +151,17 @@ fn four_at(file: &[u8], place: usize) -> Option<[u8; 4]> {
 
 fn is_group(name: [u8; 4]) -> bool {
     matches!(&name, b"FORM" | b"LIST" | b"CAT " | b"PROP")
+}
+
+fn kind_of(name: [u8; 4]) -> Kind {
+    match &name {
+        b"FORM" => Kind::Form,
+        b"LIST" => Kind::List,
+        b"CAT " => Kind::Cat,
+        b"PROP" => Kind::Prop,
+        b"    " => Kind::Filler,
+        _ => Kind::Local,
+    }
 }
 
 fn is_version(name: [u8; 4]) -> bool {

@@ -3,26 +3,50 @@
 use crate::answer::Refused;
 use crate::fields::Header;
 
-/// Decodes a BODY into `frame`, which must have w times h bytes, bit by bit.
-/// Returns the count of BODY bytes left over; after 26 or 27 the frame is
-/// partly written.
+/// Decodes a BODY into `frame`, which must have w times h bytes, pixel by pixel
+/// and bit by bit. Returns the count of BODY bytes left over; after 26 or 27
+/// the frame is partly written.
 pub fn plain_frame(header: &Header, body: &[u8], frame: &mut [u8]) -> Result<usize, Refused> {
+    plain_lines(header, body, frame, |rows, length, line| {
+        for (x, pixel) in line.iter_mut().enumerate() {
+            for (plane, row) in rows.chunks_exact(length).enumerate() {
+                *pixel |= (row[x / 8] >> (7 - x % 8) & 1) << plane;
+            }
+        }
+    })
+}
+
+/// The same plane by plane, the eight bits of a byte at a time.
+pub fn plain_frame_by_bytes(header: &Header, body: &[u8], frame: &mut [u8]) -> Result<usize, Refused> {
+    plain_lines(header, body, frame, |rows, length, line| {
+        for (plane, row) in rows.chunks_exact(length).enumerate() {
+            for (pixels, byte) in line.chunks_mut(8).zip(row) {
+                for (n, pixel) in pixels.iter_mut().enumerate() {
+                    *pixel |= (byte >> (7 - n) & 1) << plane;
+                }
+            }
+        }
+    })
+}
+
+/// Reads the rows of each line, and gathers them into the cleared frame.
+fn plain_lines(
+    header: &Header,
+    body: &[u8],
+    frame: &mut [u8],
+    gather: impl Fn(&[u8], usize, &mut [u8]),
+) -> Result<usize, Refused> {
     let width = usize::from(header.width);
+    let planes = usize::from(header.planes);
     let length = width.div_ceil(16) * 2;
-    let mut row = vec![0; length];
+    let mut rows = vec![0; length * (planes + usize::from(header.masking == 1))];
     let mut place = 0;
     frame.fill(0);
     for line in frame.chunks_exact_mut(width) {
-        for plane in 0..header.planes {
-            place = plain_row(header, body, place, &mut row)?;
-            for x in 0..width {
-                let bit = (row[x / 8] >> (7 - x % 8)) & 1;
-                line[x] |= bit << plane;
-            }
+        for row in rows.chunks_exact_mut(length) {
+            place = plain_row(header, body, place, row)?;
         }
-        if header.masking == 1 {
-            place = plain_row(header, body, place, &mut row)?;
-        }
+        gather(&rows[..planes * length], length, line);
     }
     Ok(body.len() - place)
 }

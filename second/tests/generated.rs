@@ -1,8 +1,8 @@
 //! Properties over generated files, and how often each number is answered.
 
 use second::generate::{self, Query};
-use second::plain::plain_check;
-use second::plain_rows::{plain_frame, plain_pack};
+use second::plain::{plain_check, plain_record};
+use second::plain_rows::{plain_frame, plain_frame_by_bytes, plain_pack};
 use second::random::Random;
 use second::{check, clean_copy, data, fill_table, frame, listing_text, pack, palette, properties};
 use second::{record, records, scan_line, write_picture, Kind, Origin, Refused};
@@ -55,6 +55,9 @@ fn structure_numbers_and_plain_check() {
     for_files(|file, _| {
         let answer = check(file);
         assert_eq!(plain_check(file), answer);
+        let number = answer.map_or(0, |accepted| accepted.chunks - 1);
+        assert_eq!(plain_record(file, number), record(file, number));
+        assert_eq!(plain_record(file, number + 1), record(file, number + 1));
         tally.add(&answer);
         long += usize::from(file.len() >= 4096);
     });
@@ -144,6 +147,9 @@ fn frames_are_scan_lines() {
         let mut buffer = vec![9; width * height];
         let plain = plain_frame(&told.header, &file[body.clone()], &mut buffer);
         assert_eq!(plain.err(), whole.as_ref().err().copied());
+        let mut other = vec![7; width * height];
+        assert_eq!(plain_frame_by_bytes(&told.header, &file[body.clone()], &mut other), plain);
+        assert!(whole.is_err() || other == buffer);
         let mut place = 0;
         for y in 0..height {
             match scan_line(file, picture, place, width) {

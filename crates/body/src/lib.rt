@@ -129,12 +129,13 @@ fn line_len(compression: u8, n: usize, line: &[u8], planes: usize) -> usize
     total
 }
 
-// Packs a row to a place of out.
-fn pack_at(row: &[u8], out: &mut [u8], at: usize)
+// Packs a row to a place of out, and tells its length there.
+fn pack_at(row: &[u8], out: &mut [u8], at: usize) -> usize
     requires { ⌜ at + length (packed (now row)) ≤ length (now out) ⌝ }
-    ensures { λ _. ⌜ now (out .exit) ≡ put (now (out .entry)) at (packed (now (row .entry))) ⌝ }
+    ensures is { λ r. ⌜ r ≡ length (packed (now (row .entry))) ⌝ }
+    ensures bytes { λ _. ⌜ now (out .exit) ≡ put (now (out .entry)) at (packed (now (row .entry))) ⌝ }
 {
-    pack::pack_into(row, &mut out[at..]);
+    pack::pack_into(row, &mut out[at..])
 }
 
 // Writes a plane row that is packed, and tells its length; the row is made in a buffer of its length.
@@ -151,9 +152,7 @@ fn put_packed_row(
     ensures bytes { λ _. ⌜ now (out .exit) ≡ put (now (out .entry)) at (packed (planeRow (2 ^ k) (now (line .entry)) 0 n)) ⌝ }
 {
     plane_row(line, k, n, row, 0);
-    let count = pack::packed_len(row);
-    pack_at(row, out, at);
-    count
+    pack_at(row, out, at)
 }
 
 // Writes a plane row, and tells its length.

@@ -1,10 +1,14 @@
--- One law for each way out of `pack_row`: the tests that were passed settle the answer, and with it the buffer.
-use Prim.Native.Nat.{ℕ, _<_, _≤_}
+-- One law for each way out of `pack_row` and `lacks_room`: the tests that were passed settle the answer, and with it the buffer.
+use Prim.Native.Nat.{ℕ, _+_, _/_, _<_, _≤_}
 use mathlib.Core.Path.{_≡_, refl, sym, ap, _∙_}
 use mathlib.Core.List.{List, _++_}
+use mathlib.Core.Bool.{Bool, true, false}
 use lib.ListN.{length, drop}
-use borrow.Author.Tests.{lt-ltb, le-ltb, eq-eqb, ne-eqb}
+use lib.Dec.{ltb}
+use borrow.Author.Tests.{lt-ltb, le-ltb, ltb-false, eq-eqb, ne-eqb}
+use native.Mathlib.Omega.{arith}
 use Rattle.pack.specs.Pack.{packed, packOf, outAfter}
+use Rattle.pack.specs.Laws.{packed-short}
 use Rattle.pack.specs.declared.PackAnswer.{PackAnswer}
 use Rattle.pack.specs.declared.PackAnswer.the-variants.{Written, BadLength, NoRoom}
 
@@ -23,9 +27,21 @@ module _ (row out : List ℕ) where
     pub long-refused : 8192 < length row → Answers row out BadLength out
     long-refused h = settled BadLength out (simp (ne-eqb _ _ z, lt-ltb _ _ h)) refl
 
-    module _ (l : length row ≤ 8192) (need : ℕ) (is : need ≡ length (packed row)) where
-      pub no-room : length out < need → Answers row out NoRoom out
-      no-room h = settled NoRoom out (simp (ne-eqb _ _ z, le-ltb _ _ l, ← is, lt-ltb _ _ h)) refl
+    module _ (l : length row ≤ 8192) (t : Bool) (is : t ≡ ltb (length out) (length (packed row))) where
+      pub no-room : t ≡ true → Answers row out NoRoom out
+      no-room e = settled NoRoom out (simp (ne-eqb _ _ z, le-ltb _ _ l, ← is, e)) refl
 
-      pub written : (out′ : List ℕ) → need ≤ length out → out′ ≡ packed row ++ drop (length (packed row)) out → Answers row out (Written need) out′
-      written out′ h e = settled (Written need) out′ (simp (ne-eqb _ _ z, le-ltb _ _ l, ← is, le-ltb _ _ h)) (rw is e)
+      pub written : (out′ : List ℕ) (k : ℕ) → t ≡ false → k ≡ length (packed row) → out′ ≡ packed row ++ drop (length (packed row)) out → Answers row out (Written k) out′
+      written out′ k e n h = settled (Written k) out′ (simp (ne-eqb _ _ z, le-ltb _ _ l, ← is, e, n)) (rw n h)
+
+-- a row that doesn't lack room fits
+pub room-left : (room n : ℕ) (t : Bool) → t ≡ ltb room n → t ≡ false → n ≤ room
+room-left room n t is e = ltb-false room n (sym is ∙ e)
+
+-- the room is enough for any row of this length, or is compared with the length
+module _ (row : List ℕ) (room : ℕ) where
+  pub room-enough : length row + (length row + 127) / 128 ≤ room → false ≡ ltb room (length (packed row))
+  room-enough h = let z = packed-short row in sym (le-ltb room (length (packed row)) (omega arith))
+
+  pub room-counted : (k : ℕ) → k ≡ length (packed row) → ltb room k ≡ ltb room (length (packed row))
+  room-counted k e = ap (λ (n : ℕ). ltb room n) e

@@ -5,8 +5,8 @@ use mathlib.Core.List.{List, [], _∷_}
 use mathlib.Core.Bool.{Bool, true, false}
 use lib.ListN.{length, getD, drop, length-drop}
 use lib.Seq.{getD-drop, drop-drop}
-use lib.Dec.{eqb}
-use borrow.Author.Tests.{eq-eqb, ne-eqb}
+use lib.Dec.{ltb, eqb}
+use borrow.Author.Tests.{eq-eqb, ne-eqb, ltb-true, ltb-false}
 use native.Mathlib.Omega.{arith}
 use native.Mathlib.Nat.{add-zero}
 use Rattle.byterun.specs.ByteRun.{pick}
@@ -36,13 +36,13 @@ module _ (row : List ℕ) (i : ℕ) where
   pub three-few : length row - i < 3 → false ≡ three (drop i row)
   three-few h = few (drop i row) (rw length-drop h)
 
-  seen : 3 ≤ length row - i → three (drop i row) ≡ pick (eqb (getD row i 0) (getD row (i + 1) 0)) (eqb (getD row (i + 1) 0) (getD row (i + 2) 0)) false
-  seen h = rw (first row i, getD-drop i row 1 0, getD-drop i row 2 0) at (enough (drop i row) (rw length-drop h))
+  seen : i + 3 ≤ length row → three (drop i row) ≡ pick (eqb (getD row i 0) (getD row (i + 1) 0)) (eqb (getD row (i + 1) 0) (getD row (i + 2) 0)) false
+  seen h = rw (first row i, getD-drop i row 1 0, getD-drop i row 2 0) at (enough (drop i row) (rw length-drop (omega arith)))
 
-  pub three-same : 3 ≤ length row - i → getD row i 0 ≡ getD row (i + 1) 0 → eqb (getD row (i + 1) 0) (getD row (i + 2) 0) ≡ three (drop i row)
+  pub three-same : i + 3 ≤ length row → getD row i 0 ≡ getD row (i + 1) 0 → eqb (getD row (i + 1) 0) (getD row (i + 2) 0) ≡ three (drop i row)
   three-same h e = rw (seen h) (simp (eq-eqb (getD row i 0) (getD row (i + 1) 0) e))
 
-  pub three-other : 3 ≤ length row - i → (getD row i 0 ≡ getD row (i + 1) 0 → ⊥) → false ≡ three (drop i row)
+  pub three-other : i + 3 ≤ length row → (getD row i 0 ≡ getD row (i + 1) 0 → ⊥) → false ≡ three (drop i row)
   three-other h e = rw (seen h) (simp (ne-eqb (getD row i 0) (getD row (i + 1) 0) e))
 
 pub ruleset threes = (three-few, three-same, three-other)
@@ -75,9 +75,31 @@ plain-nil zero xs h = refl
 plain-nil (suc m) [] h = refl
 plain-nil (suc m) (x ∷ xs) h = absurd (omega arith)
 
+-- no three start in the last two bytes
+plain-two : (xs : List ℕ) (m : ℕ) → length xs ≤ 2 → length xs ≤ m → plainFor m xs ≡ length xs
+unfolding plainFor three
+plain-two [] m h g = plain-nil m [] refl
+plain-two (a ∷ []) zero h g = absurd (omega arith)
+plain-two (a ∷ []) (suc m) h g = ap suc (plain-nil m [] refl)
+plain-two (a ∷ b ∷ []) zero h g = absurd (omega arith)
+plain-two (a ∷ b ∷ []) (suc zero) h g = absurd (omega arith)
+plain-two (a ∷ b ∷ []) (suc (suc m)) h g = ap (λ (n : ℕ). suc (suc n)) (plain-nil m [] refl)
+plain-two (a ∷ b ∷ c ∷ xs) m h g = absurd (omega arith)
+
 plain-zero : (xs : List ℕ) → plainFor 0 xs ≡ 0
 unfolding plainFor
 plain-zero xs = refl
+
+plain-most : (m : ℕ) (xs : List ℕ) → length xs ≤ 2 → m ≤ length xs → plainFor m xs ≡ m
+unfolding plainFor three
+plain-most zero xs h g = refl
+plain-most (suc m) [] h g = absurd (omega arith)
+plain-most (suc zero) (a ∷ []) h g = refl
+plain-most (suc (suc m)) (a ∷ []) h g = absurd (omega arith)
+plain-most (suc zero) (a ∷ b ∷ []) h g = refl
+plain-most (suc (suc zero)) (a ∷ b ∷ []) h g = refl
+plain-most (suc (suc (suc m))) (a ∷ b ∷ []) h g = absurd (omega arith)
+plain-most (suc m) (a ∷ b ∷ c ∷ xs) h g = absurd (omega arith)
 
 module _ (row : List ℕ) (i k : ℕ) where
   one-more : drop 1 (drop (i + k) row) ≡ drop (i + (k + 1)) row
@@ -108,25 +130,40 @@ module _ (row : List ℕ) (i k : ℕ) where
     same-more g h e = let z = simp (eq-eqb (getD row (i + k) 0) b e) at (stepped g h) in omega arith
 
   module _ (v : ℕ) (u : k + plainFor (128 - k) (drop (i + k) row) ≡ v) where
-    pub plain-out : length row - i ≤ k → k ≡ v
-    plain-out h = let z = plain-nil (128 - k) (drop (i + k) row) (rw length-drop (omega arith)) in omega arith
+    -- `last` places have two bytes after them
+    module _ (last : ℕ) (w : (last ≤ 128) × (last ≤ length row - i - 2) × (last < 128 → length row - i - 2 ≤ last)) where
+      passed : k < last → plainFor (128 - k) (drop (i + k) row) ≡ pick (three (drop (i + k) row)) 0 (suc (plainFor (128 - (k + 1)) (drop (i + (k + 1)) row)))
+      passed h =
+          let e : 128 - k ≡ suc (128 - (k + 1)) = omega arith in
+          rw (e, plain-cons (128 - (k + 1)) (drop (i + k) row) (rw length-drop (omega arith)), one-more)
 
-    pub plain-full : 128 ≤ k → k ≤ 128 → k ≡ v
-    plain-full g h = let e : 128 - k ≡ 0 = omega arith in let z = rw (e, plain-zero (drop (i + k) row)) at u in omega arith
+      module _ (t : Bool) (is : t ≡ three (drop (i + k) row)) (h : k < last) where
+        pub plain-stop : t ≡ true → k ≡ v
+        plain-stop e = let z = simp (← is, e) at (passed h) in omega arith
 
-    passed : k < 128 → k < length row - i → plainFor (128 - k) (drop (i + k) row) ≡ pick (three (drop (i + k) row)) 0 (suc (plainFor (128 - (k + 1)) (drop (i + (k + 1)) row)))
-    passed g h =
-        let e : 128 - k ≡ suc (128 - (k + 1)) = omega arith in
-        rw (e, plain-cons (128 - (k + 1)) (drop (i + k) row) (rw length-drop (omega arith)), one-more)
+        pub plain-more : t ≡ false → (k + 1) + plainFor (128 - (k + 1)) (drop (i + (k + 1)) row) ≡ v
+        plain-more e = let z = simp (← is, e) at (passed h) in omega arith
 
-    module _ (t : Bool) (is : t ≡ three (drop (i + k) row)) where
-      pub plain-stop : k < 128 → k < length row - i → t ≡ true → k ≡ v
-      plain-stop g h e = let z = simp (← is, e) at (passed g h) in omega arith
+      module _ (d : last ≤ k) (f : k ≤ last) (g : i + k ≤ length row) where
+        pub plain-short : length row - i < 128 → length row - i ≡ v
+        plain-short h =
+            let o = w .2 (omega arith) in
+            let z = plain-two (drop (i + k) row) (128 - k) (rw length-drop (omega arith)) (rw length-drop (omega arith)) in
+            let y = rw (z, length-drop) at u in omega arith
 
-      pub plain-more : k < 128 → k < length row - i → t ≡ false → (k + 1) + plainFor (128 - (k + 1)) (drop (i + (k + 1)) row) ≡ v
-      plain-more g h e = let z = simp (← is, e) at (passed g h) in omega arith
+        pub plain-long : 128 ≤ length row - i → 128 ≡ v
+        plain-long h = go (ltb last 128) refl
+          where
+            go : (t : Bool) → ltb last 128 ≡ t → 128 ≡ v
+            go true e =
+                let o = w .2 (ltb-true last 128 e) in
+                let z = rw (plain-most (128 - k) (drop (i + k) row) (rw length-drop (omega arith)) (rw length-drop (omega arith))) at u in omega arith
+            go false e =
+                let o = ltb-false last 128 e in
+                let n : 128 - k ≡ 0 = omega arith in
+                let z = rw (n, plain-zero (drop (i + k) row)) at u in omega arith
 
-pub ruleset lengths = (same-starts, same-out, same-full, same-stop, same-more, plain-starts, plain-out, plain-full, plain-stop, plain-more)
+pub ruleset lengths = (same-starts, same-out, same-full, same-stop, same-more, plain-starts, plain-short, plain-long, plain-stop, plain-more)
 
 -- ---- the piece
 

@@ -178,4 +178,4 @@ put-ends row out v w i at h d e f =
     let t : take at out ≡ v = sym (append-nil (take at out)) ∙ (rw z at e) in
     sym (take-append-drop at out) ∙ (rw (t, a, f))
 
-pub ruleset putting = (repeat-fits, repeat-less, repeat-at-fits, literal-fits, literal-less, literal-at-code-fits, literal-at-fits, count-starts, put-ends)
+pub ruleset putting = (repeat-fits, repeat-less, repeat-at-fits, literal-fits, literal-less, literal-at-code-fits, literal-at-fits, count-starts, count-ends, put-ends)

@@ -1,8 +1,9 @@
-// The packer of one row by ByteRun1: the length is settled before a byte is written.
+// The packer of one row by ByteRun1: that the result fits is settled before a byte is written.
 ghost use mathlib.Core.Path.{_≡_};
 ghost use Prim.Native.Nat.{_+_, _-_, _≤_, _<_};
 ghost use mathlib.Core.List.{_∷_, [], _++_};
 ghost use lib.ListN.{length, take, drop};
+ghost use lib.Dec.{ltb};
 ghost use lib.Seq.{paste};
 ghost use Rattle.pack.specs.Pack.{three, sameFor, plainFor, pieceOf, packed, packOf, outAfter};
 
@@ -19,6 +20,17 @@ pub enum Piece {
     Literal(usize),
 }
 
+// Whether the three bytes at i are equal.
+fn three_here(row: &[u8], i: usize) -> bool
+    requires { ⌜ i + 3 ≤ length (now row) ⌝ }
+    ensures { λ r. ⌜ r ≡ three (drop i (now (row .entry))) ⌝ }
+{
+    if row[i] == row[i + 1] {
+        return row[i + 1] == row[i + 2];
+    }
+    false
+}
+
 // Whether three equal bytes stand at i.
 fn three_at(row: &[u8], i: usize) -> bool
     requires { ⌜ i ≤ length (now row) ⌝ }
@@ -27,10 +39,7 @@ fn three_at(row: &[u8], i: usize) -> bool
     if row.len() - i < 3 {
         return false;
     }
-    if row[i] == row[i + 1] {
-        return row[i + 1] == row[i + 2];
-    }
-    false
+    three_here(row, i)
 }
 
 // How many bytes b stand at i, at most 128.
@@ -51,22 +60,37 @@ fn same_at(row: &[u8], i: usize, b: u8) -> usize
     k
 }
 
+// How many of 128 places have two more bytes after them, with so many bytes left.
+fn starts(left: usize) -> usize
+    ensures { λ r. ⌜ (r ≤ 128) × (r ≤ left - 2) × (r < 128 → left - 2 ≤ r) ⌝ }
+{
+    if left < 2 {
+        return 0;
+    }
+    if left < 130 {
+        return left - 2;
+    }
+    128
+}
+
 // How many bytes from i on stand before three equal ones, at most 128.
 fn plain_at(row: &[u8], i: usize) -> usize
     requires { ⌜ i ≤ length (now row) ⌝ }
     ensures { λ r. ⌜ r ≡ plainFor 128 (drop i (now (row .entry))) ⌝ }
 {
+    let left = row.len() - i;
+    let last = starts(left);
     let mut n = 0;
-    while n < 128 {
-        if row.len() - i <= n {
-            return n;
-        }
-        if three_at(row, i + n) {
+    while n < last {
+        if three_here(row, i + n) {
             return n;
         }
         n += 1;
     }
-    n
+    if left < 128 {
+        return left;
+    }
+    128
 }
 
 // The piece that stands at i: a repeat where three equal bytes start, else a literal.
@@ -122,10 +146,11 @@ fn put_literal(out: &mut [u8], at: usize, row: &[u8], i: usize, count: usize)
     byterun::copy_run(row, i, out, at + 1, count);
 }
 
-// Writes the packed row, which fits, to the start of out.
-pub fn pack_into(row: &[u8], out: &mut [u8])
+// Writes the packed row, which fits, to the start of out, and tells its length.
+pub fn pack_into(row: &[u8], out: &mut [u8]) -> usize
     requires { ⌜ length (packed (now row)) ≤ length (now out) ⌝ }
-    ensures { λ _. ⌜ now (out .exit) ≡ packed (now (row .entry)) ++ drop (length (packed (now (row .entry)))) (now (out .entry)) ⌝ }
+    ensures is { λ r. ⌜ r ≡ length (packed (now (row .entry))) ⌝ }
+    ensures bytes { λ _. ⌜ now (out .exit) ≡ packed (now (row .entry)) ++ drop (length (packed (now (row .entry)))) (now (out .entry)) ⌝ }
 {
     let mut from = 0;
     let mut at = 0;
@@ -144,6 +169,19 @@ pub fn pack_into(row: &[u8], out: &mut [u8])
             }
         }
     }
+    at
+}
+
+// Whether the packed row is longer than the room. Where the room is enough for any row, nothing is counted.
+fn lacks_room(row: &[u8], room: usize) -> bool
+    requires { ⌜ length (now row) ≤ 8192 ⌝ }
+    ensures { λ r. ⌜ r ≡ ltb room (length (packed (now (row .entry)))) ⌝ }
+{
+    let n = row.len();
+    if n + (n + 127) / 128 <= room {
+        return false;
+    }
+    room < packed_len(row)
 }
 
 // Packs a row of 1 to 8,192 bytes into out; bytes after the result stay, and a refusal changes nothing.
@@ -158,10 +196,8 @@ pub fn pack_row(row: &[u8], out: &mut [u8]) -> PackAnswer
     if 8192 < n {
         return PackAnswer::BadLength;
     }
-    let need = packed_len(row);
-    if out.len() < need {
+    if lacks_room(row, out.len()) {
         return PackAnswer::NoRoom;
     }
-    pack_into(row, out);
-    PackAnswer::Written(need)
+    PackAnswer::Written(pack_into(row, out))
 }

@@ -7,11 +7,8 @@ use Rattle.body.proofs.put_packed_row.Tie as tie
 plane-row-requires : tie.Need-plane-row-requires
 plane-row-requires c κs = search needs
 
-packed-len-requires : tie.Need-packed-len-requires
-packed-len-requires c κs = search needs
-
 pack-at-requires : tie.Need-pack-at-requires
-pack-at-requires c κs = search (made-room, c .before .before .before .before .before .before .plane-row .ensures, c .before .before .before .before .before .before .before .before .before .before .before .pre, needs)
+pack-at-requires c κs = search (made-room, c .before .before .before .before .plane-row .ensures, c .before .before .before .before .before .before .before .before .before .pre, needs)
 
 same-length : tie.Need-same-length
 same-length c = search needs
@@ -27,7 +24,6 @@ put-packed-row-spec =
     tie.close
     (tie.spec
     plane-row-requires
-    packed-len-requires
     pack-at-requires
     same-length
     same-length-2

@@ -1,5 +1,5 @@
 -- `plain_at` meets its contract. The loop's invariant: n bytes, and those that follow before three equal ones, are all; the measure is what
--- is left of 128.
+-- is left of the places with two bytes after them.
 use Prim.Native.Nat.{_+_, _-_, _≤_}
 use mathlib.Core.Path.{_≡_}
 use lib.ListN.{length, drop}
@@ -10,28 +10,28 @@ use Rattle.pack.proofs.plain_at.Statement.{statement}
 use Rattle.pack.proofs.plain_at.Tie as tie
 
 abbrev Inv-loop : tie.InvT-loop
-Inv-loop row i n₀ n = (n ≤ 128) × (i + n ≤ length row) × (n + plainFor (128 - n) (drop (i + n) row) ≡ plainFor 128 (drop i row))
+Inv-loop row i left last n₀ n = (n ≤ last) × (i + n ≤ length row) × (n + plainFor (128 - n) (drop (i + n) row) ≡ plainFor 128 (drop i row))
 
 abbrev μ-loop : tie.MeasureT-loop
-μ-loop row i n₀ n = 128 - n
+μ-loop row i left last n₀ n = last - n
+
+sub-left : tie.Need-sub-left Inv-loop μ-loop
+sub-left c = search needs
+
+starts-requires : tie.Need-starts-requires Inv-loop μ-loop
+starts-requires c κs = search needs
 
 loop-holds : tie.Need-loop-holds Inv-loop μ-loop
 loop-holds c = search (lengths, needs)
 
-sub-if1 : tie.Need-sub-if1 Inv-loop μ-loop
-sub-if1 c = search (lengths, needs)
+add-three-here : tie.Need-add-three-here Inv-loop μ-loop
+add-three-here c = search (lengths, needs)
+
+three-here-requires : tie.Need-three-here-requires Inv-loop μ-loop
+three-here-requires c κs = search (lengths, needs)
 
 returns : tie.Need-returns Inv-loop μ-loop
 returns c = search (lengths, needs)
-
-add-three-at : tie.Need-add-three-at Inv-loop μ-loop
-add-three-at c = search (lengths, needs)
-
-three-at-requires : tie.Need-three-at-requires Inv-loop μ-loop
-three-at-requires c κs = search (lengths, needs)
-
-returns-2 : tie.Need-returns-2 Inv-loop μ-loop
-returns-2 c = search (lengths, needs)
 
 add-n : tie.Need-add-n Inv-loop μ-loop
 add-n c = search (lengths, needs)
@@ -42,6 +42,9 @@ loop-less c = search (lengths, needs)
 loop-again : tie.Need-loop-again Inv-loop μ-loop
 loop-again c = search (lengths, needs)
 
+returns-2 : tie.Need-returns-2 Inv-loop μ-loop
+returns-2 c = search (lengths, needs)
+
 returns-3 : tie.Need-returns-3 Inv-loop μ-loop
 returns-3 c = search (lengths, needs)
 
@@ -51,13 +54,14 @@ plain-at-spec =
     (tie.spec
     Inv-loop
     μ-loop
+    sub-left
+    starts-requires
     loop-holds
-    sub-if1
+    add-three-here
+    three-here-requires
     returns
-    add-three-at
-    three-at-requires
-    returns-2
     add-n
     loop-less
     loop-again
+    returns-2
     returns-3)

@@ -1,4 +1,4 @@
--- `three_at` meets its contract: each way out is one law.
+-- `three_at` meets its contract: fewer than three bytes are no three.
 use Rattle.pack.proofs.Scan.{threes}
 use borrow.Author.Needs.{needs}
 use Rattle.pack.proofs.three_at.Statement.{statement}
@@ -10,45 +10,11 @@ sub-if1 c = search needs
 returns : tie.Need-returns
 returns c = search (threes, needs)
 
-shared-slice-read-if2 : tie.Need-shared-slice-read-if2
-shared-slice-read-if2 c = search needs
-
-add-if2 : tie.Need-add-if2
-add-if2 c = search needs
-
-shared-slice-read-if2-2 : tie.Need-shared-slice-read-if2-2
-shared-slice-read-if2-2 c = search needs
-
-add-result : tie.Need-add-result
-add-result c = search needs
-
-shared-slice-read-result : tie.Need-shared-slice-read-result
-shared-slice-read-result c = search needs
-
-add-result-2 : tie.Need-add-result-2
-add-result-2 c = search needs
-
-shared-slice-read-result-2 : tie.Need-shared-slice-read-result-2
-shared-slice-read-result-2 c = search needs
+three-here-requires : tie.Need-three-here-requires
+three-here-requires c κs = search needs
 
 returns-2 : tie.Need-returns-2
-returns-2 c = search (threes, needs)
-
-returns-3 : tie.Need-returns-3
-returns-3 c = search (threes, needs)
+returns-2 c = search needs
 
 pub three-at-spec : {M : Type 1} → statement M
-three-at-spec =
-    tie.close
-    (tie.spec
-    sub-if1
-    returns
-    shared-slice-read-if2
-    add-if2
-    shared-slice-read-if2-2
-    add-result
-    shared-slice-read-result
-    add-result-2
-    shared-slice-read-result-2
-    returns-2
-    returns-3)
+three-at-spec = tie.close (tie.spec sub-if1 returns three-here-requires returns-2)

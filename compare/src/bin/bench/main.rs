@@ -1,0 +1,34 @@
+//! `bench [LIBAVCODEC]`: times of the library beside the second reader and
+//! plain programs in Rust, each line in turns in one run, as medians. With the
+//! program of `libavcodec.c`, frame decoding beside libavcodec too. Fails if
+//! something takes more than 2.3 times as long for twice the input.
+
+mod drawn;
+mod frames;
+mod outside;
+mod packing;
+mod structure;
+mod timing;
+
+use std::process::ExitCode;
+
+/// The most that twice the input may take.
+const GREATEST_GROWTH: f64 = 2.3;
+
+fn main() -> ExitCode {
+    let outside = std::env::args().nth(1);
+    structure::against_others();
+    frames::against_others();
+    packing::against_others();
+    match outside {
+        Some(program) => frames::against_libavcodec(&program),
+        None => println!("\nlibavcodec: not linked, left out"),
+    }
+    timing::growth_heading();
+    let greatest = frames::growth().max(packing::growth()).max(structure::growth());
+    if greatest > GREATEST_GROWTH {
+        println!("twice the input takes more than {GREATEST_GROWTH} times as long");
+        return ExitCode::FAILURE;
+    }
+    ExitCode::SUCCESS
+}

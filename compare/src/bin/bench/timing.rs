@@ -1,0 +1,72 @@
+//! Medians of runs in turns, and the lines that show them.
+
+use std::hint::black_box;
+use std::time::Instant;
+
+/// How often each program of a line is timed, in turns: at least and at most.
+const TURNS: (f64, f64) = (15.0, 401.0);
+
+/// What a program is timed for, in seconds, if the turns allow it.
+const TOGETHER: f64 = 0.2;
+
+/// A turn takes at least about so many seconds, by repeating. It is short, so
+/// that most turns pass without another process in between.
+const SHORTEST: f64 = 3e-4;
+
+/// A program to be timed: it runs so many times, and tells the seconds.
+pub type Timed<'a> = Box<dyn FnMut(u32) -> f64 + 'a>;
+
+/// Times a function of the same process.
+pub fn timed<'a, T>(mut run: impl FnMut() -> T + 'a) -> Timed<'a> {
+    Box::new(move |times| {
+        let start = Instant::now();
+        for _ in 0..times {
+            black_box(run());
+        }
+        start.elapsed().as_secs_f64()
+    })
+}
+
+fn median(mut times: Vec<f64>) -> f64 {
+    times.sort_by(f64::total_cmp);
+    times[times.len() / 2]
+}
+
+/// The median microseconds of one run of each program, timed in turns.
+fn medians<const COUNT: usize>(mut programs: [Timed; COUNT]) -> [f64; COUNT] {
+    let once = programs.iter_mut().map(|program| program(1)).fold(f64::MAX, f64::min);
+    let times = (SHORTEST / once).clamp(1.0, 1e6) as u32;
+    let turns = (TOGETHER / (once * f64::from(times))).clamp(TURNS.0, TURNS.1) as u32;
+    let mut told = [(); COUNT].map(|()| Vec::new());
+    for _ in 0..turns {
+        for (program, told) in programs.iter_mut().zip(&mut told) {
+            told.push(program(times) / f64::from(times) * 1e6);
+        }
+    }
+    told.map(median)
+}
+
+/// The heading of lines of the library beside others.
+pub fn heading(what: &str, others: [&str; 2]) {
+    let [a, b] = others;
+    let [of_a, of_b] = others.map(|name| format!("/ {name}"));
+    println!("\n{what:48} {:>11} {a:>11} {b:>11} {of_a:>10} {of_b:>10}", "library");
+}
+
+/// A line: microseconds of the library and two others, and the ratios to them.
+pub fn beside(what: &str, programs: [Timed; 3]) {
+    let [ours, a, b] = medians(programs);
+    println!("{what:48} {ours:11.1} {a:11.1} {b:11.1} {:10.2} {:10.2}", ours / a, ours / b);
+}
+
+/// The heading of lines of one call on some input and on twice of it.
+pub fn growth_heading() {
+    println!("\n{:48} {:>11} {:>11} {:>10}", "twice the input", "whole", "half", "/ half");
+}
+
+/// A line: microseconds on the whole input and on half of it; their ratio.
+pub fn grown(what: &str, whole: Timed, half: Timed) -> f64 {
+    let [whole, half] = medians([whole, half]);
+    println!("{what:48} {whole:11.1} {half:11.1} {:10.2}", whole / half);
+    whole / half
+}

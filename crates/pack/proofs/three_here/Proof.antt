@@ -1,0 +1,46 @@
+-- `three_here` meets its contract: each way out is one law.
+use Rattle.pack.proofs.Scan.{threes}
+use borrow.Author.Needs.{needs}
+use Rattle.pack.proofs.three_here.Statement.{statement}
+use Rattle.pack.proofs.three_here.Tie as tie
+
+shared-slice-read-if1 : tie.Need-shared-slice-read-if1
+shared-slice-read-if1 c = search needs
+
+add-if1 : tie.Need-add-if1
+add-if1 c = search needs
+
+shared-slice-read-if1-2 : tie.Need-shared-slice-read-if1-2
+shared-slice-read-if1-2 c = search needs
+
+add-result : tie.Need-add-result
+add-result c = search needs
+
+shared-slice-read-result : tie.Need-shared-slice-read-result
+shared-slice-read-result c = search needs
+
+add-result-2 : tie.Need-add-result-2
+add-result-2 c = search needs
+
+shared-slice-read-result-2 : tie.Need-shared-slice-read-result-2
+shared-slice-read-result-2 c = search needs
+
+returns : tie.Need-returns
+returns c = search (threes, needs)
+
+returns-2 : tie.Need-returns-2
+returns-2 c = search (threes, needs)
+
+pub three-here-spec : {M : Type 1} → statement M
+three-here-spec =
+    tie.close
+    (tie.spec
+    shared-slice-read-if1
+    add-if1
+    shared-slice-read-if1-2
+    add-result
+    shared-slice-read-result
+    add-result-2
+    shared-slice-read-result-2
+    returns
+    returns-2)
