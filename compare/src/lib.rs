@@ -7,6 +7,7 @@ pub mod large;
 mod property;
 mod subject;
 mod tally;
+pub mod worked;
 
 mod check;
 mod copy;
