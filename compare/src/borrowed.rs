@@ -9,7 +9,7 @@ pub fn same<T: PartialEq + Debug>(what: &str, ours: T, wanted: T) -> Outcome {
     if ours == wanted {
         return Ok(());
     }
-    Err(format!("{what}: the library gives {ours:?}, the second reader {wanted:?}"))
+    Err(format!("{what}: the library gives {ours:?}, wanted is {wanted:?}"))
 }
 
 /// Bytes on either side of a buffer that belong to nobody.

@@ -14,6 +14,7 @@ mod later;
 mod property;
 mod subject;
 mod tally;
+pub mod worked;
 
 mod check;
 mod copy;

@@ -1,9 +1,9 @@
 //! `compare [SEED] [FILES]`: every call beside the second reader, on the
-//! scope's examples, on changed samples and on generated files. Stops at the
+//! worked examples, on changed samples and on generated files. Stops at the
 //! first difference.
 
 use compare::fixed::{examples, variations};
-use compare::{dump, Subject, Tally};
+use compare::{dump, worked, Subject, Tally};
 use second::generate;
 use second::random::Random;
 use std::process::ExitCode;
@@ -19,6 +19,7 @@ fn main() -> ExitCode {
     let start = Instant::now();
     let mut tally = Tally::default();
     let compared = compare_examples(&mut tally)
+        .and_then(|()| compare_worked(&mut tally))
         .and_then(|()| compare_variations(&mut tally))
         .and_then(|()| compare_generated(&mut tally, seed, files));
     if let Err(text) = compared {
@@ -44,6 +45,13 @@ fn compare_examples(tally: &mut Tally) -> Result<(), String> {
         compare_file(example.name, &mut Random::new(0), &example.file, tally)?;
     }
     Ok(())
+}
+
+/// The examples with more to them than an answer to the check.
+fn compare_worked(tally: &mut Tally) -> Result<(), String> {
+    worked::compare()?;
+    let mut random = Random::new(0);
+    worked::files().iter().try_for_each(|file| compare_file("worked example", &mut random, file, tally))
 }
 
 fn compare_variations(tally: &mut Tally) -> Result<(), String> {

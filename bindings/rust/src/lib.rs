@@ -16,6 +16,11 @@
 
 #![deny(missing_docs, unsafe_code)]
 
+// The example of the repository's first page.
+#[cfg(doctest)]
+#[doc = include_str!("../../../README.md")]
+struct Readme;
+
 mod answer;
 pub mod calls;
 mod check;

@@ -1,0 +1,166 @@
+//! The worked examples of the scope and of its two standards, by the compiled
+//! library, with what is known of them. `files` hands the files on to be
+//! compared with the second reader too.
+
+use crate::borrowed::same;
+use crate::large::group;
+use crate::Outcome;
+use florinhado::{Header, Kind, Origin, Refused};
+
+fn chunk(name: &[u8; 4], data: &[u8]) -> Vec<u8> {
+    let mut chunk = [&name[..], &(data.len() as u32).to_be_bytes(), data].concat();
+    chunk.resize(chunk.len() + data.len() % 2, 0);
+    chunk
+}
+
+fn header(width: u16, height: u16, planes: u8, compression: u8) -> Vec<u8> {
+    let mut data = [0; 20];
+    data[..2].copy_from_slice(&width.to_be_bytes());
+    data[2..4].copy_from_slice(&height.to_be_bytes());
+    (data[8], data[10]) = (planes, compression);
+    chunk(b"BMHD", &data)
+}
+
+/// One scan line of so many planes, with this BODY.
+fn line(width: u16, planes: u8, compression: u8, body: &[u8]) -> Vec<u8> {
+    group(b"FORM", b"ILBM", &[header(width, 1, planes, compression), chunk(b"BODY", body)].concat())
+}
+
+/// A scan line's file, and its colour numbers or its refusal.
+type Line = (Vec<u8>, Result<Vec<u8>, Refused>);
+
+/// The bits of these bytes as colour numbers.
+fn bits(bytes: &[u8]) -> Vec<u8> {
+    bytes.iter().flat_map(|byte| (0..8).rev().map(move |bit| byte >> bit & 1)).collect()
+}
+
+/// The scope's rows and picture, the decoder of 003 on each kind of code, and
+/// the pixel that 003 draws, number 3 of its eight.
+fn lines() -> Vec<Line> {
+    let row = |width, body: &[u8], told: &[u8]| (line(width, 1, 1, body), Ok(bits(told)));
+    let refused = |body: &[u8], number| (line(16, 1, 1, body), Err(Refused { number, place: 0 }));
+    let planes = [0b10000011, 0b00110010, 0b10001001, 0b11010100, 0b01010111, 0b10011010];
+    let body: Vec<u8> = planes.iter().flat_map(|byte| [*byte, 0]).collect();
+    let pixel = |x: u8| (0..6).map(|k| (planes[k] >> (7 - x) & 1) << k).sum();
+    let pixels: Vec<u8> = (0..8).map(pixel).collect();
+    assert_eq!(pixels[3], 0b00111010);
+    vec![
+        row(32, &[0xfd, 0], &[0; 4]),
+        row(32, &[0x80, 0xfd, 0], &[0; 4]),
+        refused(&[0xfe, 7], 27),
+        refused(&[1, 7], 26),
+        row(32, &[0x80, 1, 0xaa, 0xbb, 0xff, 0xcc], &[0xaa, 0xbb, 0xcc, 0xcc]),
+        row(1024, &[0x81, 0x5a], &[0x5a; 128]),
+        (line(3, 2, 0, &[0xa0, 0, 0x60, 0]), Ok(vec![1, 2, 3])),
+        (line(8, 6, 0, &body), Ok(pixels)),
+    ]
+}
+
+/// What an outline tells of a chunk: level, kind, name, size.
+type Told = (usize, Kind, &'static [u8; 4], usize);
+
+const BMHD: Told = (2, Kind::Local, b"BMHD", 20);
+const CMAP: Told = (2, Kind::Local, b"CMAP", 21);
+const BODY: Told = (2, Kind::Local, b"BODY", 24_000);
+
+/// BMHD and CMAP as 002 and 003 draw them: 320 by 200, 3 planes, 7 colours.
+fn properties() -> Vec<u8> {
+    let colours: Vec<u8> = (0..7).flat_map(|n| [32 * n, 0, 0]).collect();
+    [header(320, 200, 3, 0), chunk(b"CMAP", &colours)].concat()
+}
+
+/// The box diagrams with their outlines: one picture, and two in a LIST.
+fn diagrams() -> [(Vec<u8>, Vec<Told>, Origin); 2] {
+    let body = chunk(b"BODY", &[0; 24_000]);
+    let one = group(b"FORM", b"ILBM", &[properties(), body.clone()].concat());
+    let form = group(b"FORM", b"ILBM", &body);
+    let prop = group(b"PROP", b"ILBM", &properties());
+    let two = group(b"LIST", b"AAAA", &[prop, form.repeat(2)].concat());
+    let inner = |told: Told| (3, told.1, told.2, told.3);
+    let told = (2, Kind::Form, b"ILBM", 24_012);
+    let outline = vec![
+        (1, Kind::List, b"AAAA", 48_114),
+        (2, Kind::Prop, b"ILBM", 62),
+        inner(BMHD),
+        inner(CMAP),
+        told,
+        inner(BODY),
+        told,
+        inner(BODY),
+    ];
+    let alone = vec![(1, Kind::Form, b"ILBM", 24_070), BMHD, CMAP, BODY];
+    [(one, alone, Origin::Own), (two, outline, Origin::Shared(12))]
+}
+
+/// Each file of an example.
+pub fn files() -> Vec<Vec<u8>> {
+    let lines = lines().into_iter().map(|(file, _)| file);
+    lines.chain(diagrams().into_iter().map(|(file, ..)| file)).collect()
+}
+
+/// Compares every example with what is known of it.
+pub fn compare() -> Outcome {
+    lines().into_iter().try_for_each(compare_line)?;
+    diagrams().into_iter().try_for_each(compare_diagram)?;
+    compare_packed()?;
+    compare_written()
+}
+
+fn compare_line((file, known): Line) -> Outcome {
+    let width = florinhado::header(&file, 0).expect("a picture").value.width;
+    let mut row = vec![9; usize::from(width)];
+    let told = florinhado::frame(&file, 0, &mut row).map(|_| row);
+    same("worked line", told, known)
+}
+
+fn compare_diagram((file, outline, origin): (Vec<u8>, Vec<Told>, Origin)) -> Outcome {
+    let told = florinhado::check(&file).map(|told| (told.chunks, told.end, told.trailing));
+    same("diagram", told, Ok((outline.len(), file.len(), 0)))?;
+    for (number, known) in outline.iter().enumerate() {
+        let record = florinhado::record(&file, number).map_err(|refused| refused.to_string())?;
+        let known = (known.0, known.1, *known.2, known.3);
+        same("outline", (record.level, record.kind, record.name, record.size), known)?;
+    }
+    let pictures = florinhado::count_pictures(&file).map_err(|refused| refused.to_string())?;
+    same("pictures", pictures, if origin == Origin::Own { 1 } else { 2 })?;
+    for picture in 0..pictures {
+        let told = florinhado::header(&file, picture).map_err(|refused| refused.to_string())?;
+        let fields = (told.value.width, told.value.height, told.value.planes, told.origin);
+        same("fields", fields, (320, 200, 3, origin))?;
+        let colours = florinhado::palette(&file, picture, b"").map(|told| (told.value[18], told.origin));
+        same("palette", colours, Ok((192, origin)))?;
+        let mut frame = vec![9; 64_000];
+        same("leftover", florinhado::frame(&file, picture, &mut frame), Ok(0))?;
+        same("frame", frame, vec![0; 64_000])?;
+    }
+    Ok(())
+}
+
+/// The scope's packed rows.
+fn compare_packed() -> Outcome {
+    let b = 0x2a;
+    let rows: [(usize, &[u8]); 4] =
+        [(2, &[1, b, b]), (128, &[0x81, b]), (129, &[0x81, b, 0, b]), (131, &[0x81, b, 0xfe, b])];
+    for (length, known) in rows {
+        let mut out = vec![9; 200];
+        let told = florinhado::pack(&vec![b; length], &mut out);
+        same("packed length", told, Ok(known.len()))?;
+        same("packed row", &out[..known.len()], known)?;
+    }
+    Ok(())
+}
+
+/// The scope's picture, written: 52 bytes plain, 54 packed, and one byte less is 32.
+fn compare_written() -> Outcome {
+    for (compression, length) in [(0, 52), (1, 54)] {
+        let fields = Header { width: 3, height: 1, planes: 2, compression, ..Header::default() };
+        let write = |out: &mut [u8]| florinhado::write(&fields, b"", &[1, 2, 3], out);
+        let mut out = vec![9; length];
+        same("written length", write(&mut out), Ok(length))?;
+        let mut colours = [9; 3];
+        same("read back", florinhado::frame(&out, 0, &mut colours), Ok(0))?;
+        same("colours read back", colours, [1, 2, 3])?;
+        same("little room", write(&mut out[1..]), Err(Refused { number: 32, place: 0 }))?;
+    }
+    Ok(())
+}
