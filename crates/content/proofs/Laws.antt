@@ -16,14 +16,14 @@ use Rattle.grammar.specs.Read.{Regular}
 use Rattle.ilbm.specs.declared.Origin.{Origin}
 use Rattle.ilbm.specs.declared.Origin.the-variants.{Own, Shared, Absent}
 use Rattle.ilbm.specs.Contents.{BODY, BMHD, CMAP, GRAB, DEST, SPRT, CAMG, lastOwn, lastShared, SharedProp, Property, own, shared, absent, fromProp, sharedBy, ownOr, propertyOf, bodiesIn, contentOf}
-use Rattle.ilbm.specs.Places.{lastOwnAt, lastSharedAt, orZero, sharedAt, ownAtOr, propertyAt}
+use Rattle.ilbm.specs.Places.{lastOwnAt, lastSharedAt, orZero, sharedAt, propertyAt}
 use Rattle.members.specs.declared.Part.{Part}
 use Rattle.members.specs.declared.Part.the-variants.{Nothing, Between}
 use Rattle.members.specs.Members.{Holds, Row, Shows, beginOf, fromOf, IsLast, CountsBodies, StopsAtBody, IsBody, untilBody, firstOf}
 use Rattle.locate.specs.Spots.{Opens, ScopeIs, Scoped}
 use Rattle.content.specs.declared.Held.{Held}
 use Rattle.content.specs.declared.Contents.{Contents}
-use Rattle.content.specs.Held.{HeldIs, HeldAt, ContentsAre, StartsAre, SharedIs, PropertyIs, ContentIs}
+use Rattle.content.specs.Held.{HeldAt, SharedIs, PropertyIs, ContentIs}
 
 -- "before the first BODY" is "among the chunks until the first BODY"
 own-until : (name : ℕ) (so-far : Option (List ℕ)) (G : Chunks) → lastOwn name so-far G ≡ lastShared name so-far (untilBody G)

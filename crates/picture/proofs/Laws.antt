@@ -17,19 +17,19 @@ use Rattle.ilbm.specs.declared.Picture.{Picture}
 use Rattle.ilbm.specs.declared.PictureAnswer.{PictureAnswer}
 use Rattle.ilbm.specs.declared.PictureAnswer.the-variants.{Shown, Refused}
 use Rattle.ilbm.specs.Contents.{Property, own, shared, absent, Content}
-use Rattle.ilbm.specs.Pictures.{u16, u32, headerIn, hotSpotIn, destinationIn, dataOf, originOf, counts, sizeNot, sizeNotTriples, wrongSize, headerFault, pictureFault, pictureFrom, paletteFrom, Viewed, viewed, unseen, viewOf, pictureOf, pictureAnswer, paletteOf, paletteBytes}
-use Rattle.ilbm.specs.Palette.{Answer, paletteAnswer}
+use Rattle.ilbm.specs.Pictures.{u16, u32, headerIn, hotSpotIn, destinationIn, dataOf, originOf, counts, sizeNot, sizeNotTriples, wrongSize, headerFault, pictureFault, pictureFrom, paletteFrom, Viewed, viewed, unseen, viewOf, pictureOf, pictureAnswer}
 use Rattle.members.specs.declared.Part.{Part}
 use Rattle.members.specs.declared.Part.the-variants.{Nothing, Between}
 use Rattle.content.specs.declared.Held.{Held}
 use Rattle.content.specs.declared.Contents.{Contents}
 use Rattle.content.specs.Held.{HeldIs, ContentsAre}
+use Rattle.picture.specs.declared.Colours.{Colours}
 use Rattle.view.specs.declared.View.{View}
 use Rattle.view.specs.declared.View.the-variants.{Seen, Unseen}
 use Rattle.view.specs.Seen.{ViewIs}
 use Rattle.view.proofs.Laws.{held-some, held-none}
 use Rattle.view.proofs.ViewLaws.{held-data, data-taken}
-use Rattle.picture.specs.Told.{OfSize, Judged, HeaderTold, GrabTold, DestinationTold, WordTold, LongTold, PictureTold, PaletteTold}
+use Rattle.picture.specs.Told.{OfSize, Judged, HeaderTold, GrabTold, DestinationTold, WordTold, LongTold, PictureTold, PartIn, partOr, ColoursAre}
 
 not-false : (b : Bool) → not b ≡ false → b ≡ true
 not-false true e = refl
@@ -53,6 +53,8 @@ module _ (s : List ℕ) (h : Held) (n a b : ℕ) (o : OfSize s h n) (i : h .part
 
   pub size-room-0 : 0 + n ≤ length (take (b - a) (drop a s))
   size-room-0 = omega (arith, right-size)
+
+pub ruleset size-laws = (size-order, size-inside, size-room, size-room-0)
 
 -- what is read of it
 module _ (s : List ℕ) (h : Held) (a b : ℕ) (i : h .part ≡ Between a b) where
@@ -203,6 +205,30 @@ picture-told s c b g d w m B G D W M =
           cc;
     }
 
+-- the part of a property, or the default
+part-is : (s : List ℕ) (h : Held) (q : Property) (p : Part) (default : List ℕ) → HeldIs s h q → h .part ≡ p → partOr s p default ≡ paletteFrom q default
+part-is s h (own d) Nothing default k i = absurd (rw i at (k .1))
+part-is s h (own d) (Between a b) default k i = data-taken s h (own d) a b k i
+part-is s h (shared q d) Nothing default k i = absurd (rw i at (k .1))
+part-is s h (shared q d) (Between a b) default k i = data-taken s h (shared q d) a b k i
+part-is s h absent Nothing default k i = refl
+part-is s h absent (Between a b) default k i = absurd (let j : Nothing ≡ Between a b = sym (k .1) ∙ i in let z : _≡_ {A = ℕ} 0 1 = cc in omega arith)
+
+part-in : (s : List ℕ) (h : Held) (q : Property) (p : Part) → HeldIs s h q → h .part ≡ p → PartIn s p
+part-in s h q Nothing k i = tt
+part-in s h q (Between a b) k i = let w = held-data s h q a b k i in (omega (arith, w .1), w .2)
+
+-- a part that lies inside the file
+module _ (s : List ℕ) (p : Part) (a b : ℕ) (i : p ≡ Between a b) where
+  pub part-order : PartIn s p → a ≤ b
+  part-order x = let y : PartIn s (Between a b) = rw i at x in y .0
+
+  pub part-inside : PartIn s p → b ≤ length s
+  part-inside x = let y : PartIn s (Between a b) = rw i at x in y .1
+
+  pub part-taken : (default : List ℕ) → take (b - a) (drop a s) ≡ partOr s p default
+  part-taken default = rw i
+
 -- from the view to the answers
 module _ (s : List ℕ) (i : ℕ) (v : View) (w : ViewIs s v (viewOf s i)) where
   pub seen-judged : (c : Contents) → v ≡ Seen c → Judged s c
@@ -214,39 +240,16 @@ module _ (s : List ℕ) (i : ℕ) (v : View) (w : ViewIs s v (viewOf s i)) where
   pub picture-unseen : (k p : ℕ) → v ≡ Unseen k p → Refused k p ≡ pictureOf s i
   picture-unseen k p j = let x : viewOf s i ≡ unseen k p = rw j at w in rw x
 
-  pub palette-seen : (c : Contents) (default r : List ℕ) → v ≡ Seen c → PaletteTold s c default r → r ≡ paletteOf s i default
-  palette-seen c default r j k = let x : ViewIs s (Seen c) (viewOf s i) = rw j at w in rw (x .1) (k .at (x .0) (x .2))
+  -- the palette
+  pub colours-seen : (c : Contents) → v ≡ Seen c → ColoursAre s i (record { number = 0; place = 0; part = c .cmap .part })
+  colours-seen c j =
+      let (x, e, k, f) : ViewIs s (Seen c) (viewOf s i) = rw j at w in
+      record {
+        told = λ default. rw (e, part-is s (c .cmap) (x .cmap) (c .cmap .part) default (k .cmap) refl);
+        inside = part-in s (c .cmap) (x .cmap) (c .cmap .part) (k .cmap) refl;
+      }
 
-  pub palette-unseen : (k p : ℕ) (default : List ℕ) → v ≡ Unseen k p → [] ≡ paletteOf s i default
-  palette-unseen k p default j = let x : viewOf s i ≡ unseen k p = rw j at w in rw x
-
-  pub answer-seen : (c : Contents) → v ≡ Seen c → _≡_ {A = Answer} (record { number = 0; place = 0 }) (paletteAnswer s i)
-  answer-seen c j = let x : ViewIs s (Seen c) (viewOf s i) = rw j at w in rw (x .1)
-
-  pub answer-unseen : (k p : ℕ) → v ≡ Unseen k p → _≡_ {A = Answer} (record { number = k; place = p }) (paletteAnswer s i)
-  answer-unseen k p j = let x : viewOf s i ≡ unseen k p = rw j at w in rw x
-
--- the palette
-palette-of : (q : Property) (default : List ℕ) → counts q ≡ true → dataOf q ≡ paletteFrom q default
-palette-of (own d) default e = refl
-palette-of (shared p d) default e = refl
-palette-of absent default e = absurd (let z : _≡_ {A = ℕ} 0 1 = cc in omega arith)
-
-default-of : (q : Property) (default : List ℕ) → counts q ≡ false → default ≡ paletteFrom q default
-default-of (own d) default e = absurd (let z : _≡_ {A = ℕ} 0 1 = cc in omega arith)
-default-of (shared p d) default e = absurd (let z : _≡_ {A = ℕ} 0 1 = cc in omega arith)
-default-of absent default e = refl
-
-module _ (s : List ℕ) (c : Contents) where
-  pub palette-own : (default : List ℕ) (a b : ℕ) → c .cmap .part ≡ Between a b → PaletteTold s c default (take (b - a) (drop a s))
-  palette-own default a b i =
-      record { at = λ x k. data-taken s (c .cmap) (x .cmap) a b (k .cmap) i ∙ palette-of (x .cmap) default (held-some s (c .cmap) (x .cmap) a b (k .cmap) i .counts) }
-
-  pub palette-default : (default : List ℕ) → c .cmap .part ≡ Nothing → PaletteTold s c default default
-  palette-default default i = record { at = λ x k. default-of (x .cmap) default (held-none s (c .cmap) (x .cmap) (k .cmap) i) }
-
-  pub palette-order : (a b : ℕ) → Judged s c → c .cmap .part ≡ Between a b → a ≤ b
-  palette-order a b j i = omega (arith, held-some s (c .cmap) (j .0 .cmap) a b (j .1 .cmap) i .sized)
-
-  pub palette-inside : (a b : ℕ) → Judged s c → c .cmap .part ≡ Between a b → b ≤ length s
-  palette-inside a b j i = held-data s (c .cmap) (j .0 .cmap) a b (j .1 .cmap) i .2
+  pub colours-unseen : (k p : ℕ) → v ≡ Unseen k p → ColoursAre s i (record { number = k; place = p; part = Between 0 0 })
+  colours-unseen k p j =
+      let e : viewOf s i ≡ unseen k p = rw j at w in
+      record { told = λ default. rw e; inside = (omega arith, omega arith) }

@@ -16,9 +16,9 @@ use view::View;
 use view::view_picture;
 ghost use mathlib.Core.Path.{_≡_};
 ghost use Prim.Native.Nat.{ℕ};
-ghost use Rattle.ilbm.specs.Pictures.{pictureOf, paletteOf};
+ghost use Rattle.ilbm.specs.Pictures.{pictureOf};
 ghost use Rattle.ilbm.specs.Palette.{paletteAnswer};
-ghost use Rattle.picture.specs.Told.{OfSize, Judged, HeaderTold, GrabTold, DestinationTold, WordTold, LongTold, PictureTold, PaletteTold};
+ghost use Rattle.picture.specs.Told.{OfSize, Judged, HeaderTold, GrabTold, DestinationTold, WordTold, LongTold, PictureTold, PartIn, partOr, ColoursAre};
 
 // The fields of BMHD, 0 if it is absent.
 pub fn header_of(s: &[u8], h: Held) -> BitmapHeader
@@ -138,42 +138,64 @@ pub fn picture(s: &[u8], i: usize) -> PictureAnswer
     }
 }
 
-// The palette of a picture that is not refused.
-fn palette_in<'a>(s: &'a [u8], c: Contents, default: &'a [u8]) -> &'a [u8]
-    requires { ⌜ Judged (now s) c ⌝ }
-    ensures { λ r. ⌜ PaletteTold (now (s .entry)) c (now (default .entry)) (now r) ⌝ }
+// The palette that was asked for: 0 and 0, or the number and place of a refusal; and its colours, three bytes each.
+pub struct PaletteAnswer<'a> {
+    pub number: usize,
+    pub place: usize,
+    pub colours: &'a [u8],
+}
+
+// The same with the colours as a part of the file; no part where the default is meant.
+pub struct Colours {
+    pub number: usize,
+    pub place: usize,
+    pub part: Part,
+}
+
+// Where the palette of picture i is taken from: the CMAP that counts, or nowhere; an empty part of the file after a refusal.
+pub fn colours_of(s: &[u8], i: usize) -> Colours
+    ensures { λ r. ⌜ ColoursAre (now (s .entry)) i r ⌝ }
 {
-    let cmap = c.cmap;
-    let part = cmap.part;
+    let v = view_picture(s, i);
+    match v {
+        View::Seen(c) => {
+            let cmap = c.cmap;
+            let part = cmap.part;
+            Colours {
+                number: 0,
+                place: 0,
+                part,
+            }
+        }
+        View::Unseen(number, place) => Colours {
+            number,
+            place,
+            part: Part::Between(0, 0),
+        },
+    }
+}
+
+// That part of the file, or the default.
+pub fn part_or<'a>(s: &'a [u8], c: Colours, default: &'a [u8]) -> &'a [u8]
+    requires { ⌜ PartIn (now s) (c .part) ⌝ }
+    ensures { λ r. ⌜ now r ≡ partOr (now (s .entry)) (c .part) (now (default .entry)) ⌝ }
+{
+    let part = c.part;
     match part {
         Part::Nothing => default,
         Part::Between(from, to) => &s[from..to],
     }
 }
 
-// The palette of picture i: the CMAP that counts, as a part of the file, or the default where none counts. A refusal is told by its
-// number and place, with an empty part; otherwise both are 0.
-pub fn palette<'a>(
-    s: &'a [u8],
-    i: usize,
-    default: &'a [u8],
-    number: &mut usize,
-    place: &mut usize,
-) -> &'a [u8]
-    ensures told { λ _. ⌜ record { number = now (number .exit); place = now (place .exit) } ≡ paletteAnswer (now (s .entry)) i ⌝ }
-    ensures part { λ r. ⌜ now r ≡ paletteOf (now (s .entry)) i (now (default .entry)) ⌝ }
+// The palette of picture i: the CMAP that counts, as a part of the file, or the default where none counts; empty after a refusal.
+pub fn palette<'a>(s: &'a [u8], i: usize, default: &'a [u8]) -> PaletteAnswer<'a>
+    ensures { λ r. ⌜ record { number = r .number; place = r .place; colours = now (r .colours) } ≡ paletteAnswer (now (s .entry)) i (now (default .entry)) ⌝ }
 {
-    let v = view_picture(s, i);
-    match v {
-        View::Seen(c) => {
-            *number = 0;
-            *place = 0;
-            palette_in(s, c, default)
-        }
-        View::Unseen(k, p) => {
-            *number = k;
-            *place = p;
-            &s[0..0]
-        }
+    let c = colours_of(s, i);
+    let colours = part_or(s, c, default);
+    PaletteAnswer {
+        number: c.number,
+        place: c.place,
+        colours,
     }
 }

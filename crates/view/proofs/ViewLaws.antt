@@ -18,7 +18,7 @@ use Rattle.grammar.specs.Words.{slice-take}
 use Rattle.flat.specs.Coming.{Sound}
 use Rattle.ilbm.specs.declared.BitmapHeader.{BitmapHeader}
 use Rattle.ilbm.specs.Contents.{BMHD, CMAP, GRAB, DEST, SPRT, CAMG, SharedProp, Property, own, shared, absent, Content, contentOf, contentsOf}
-use Rattle.ilbm.specs.Places.{propertyAt, PictureForm, formAt, formsOf, contentsIn, contents-of-forms, placeAmong, placeOf}
+use Rattle.ilbm.specs.Places.{propertyAt, PictureForm, formAt, formsOf, contentsIn, contents-of-forms, placeAmong}
 use Rattle.ilbm.specs.Pictures.{dataOf, counts, sizeNot, wrongSize, headerIn, headerFault, pictureFault, Viewed, viewed, unseen, judged, pickContent, viewIn, viewOf}
 use Rattle.members.specs.declared.Part.{Part}
 use Rattle.members.specs.declared.Part.the-variants.{Nothing, Between}
@@ -28,7 +28,7 @@ use Rattle.locate.specs.declared.Spot.the-variants.{Here, Left}
 use Rattle.locate.specs.Spots.{Opens, ScopeIs, Scoped, Spotted, Seeks}
 use Rattle.content.specs.declared.Held.{Held}
 use Rattle.content.specs.declared.Contents.{Contents}
-use Rattle.content.specs.Held.{HeldIs, ContentsAre, StartsAre, ContentIs}
+use Rattle.content.specs.Held.{HeldIs, ContentsAre, ContentIs}
 use Rattle.view.specs.declared.View.{View}
 use Rattle.view.specs.declared.View.the-variants.{Seen, Unseen}
 use Rattle.view.specs.Seen.{Full, SizesTold, FaultTold, ViewIs, Begins, Placed, FormIn, FormView}

@@ -1,0 +1,40 @@
+-- Each way through the code takes the same branch of the definition; the part lies inside by the requirement.
+use borrow.Author.Needs.{needs}
+use Rattle.picture.proofs.Laws.{part-order, part-inside, part-taken}
+use Rattle.picture.proofs.part_or.Statement.{statement}
+use Rattle.picture.proofs.part_or.Tie as tie
+use Rattle.picture.proofs.part_or.Reads as reads
+use Rattle.picture.proofs.part_or.Lts as lts
+
+enum-told : tie.Need-enum-told
+enum-told c = search needs
+
+enum-known-part : tie.Need-enum-known-part
+enum-known-part c = search needs
+
+sub-result : tie.Need-sub-result
+sub-result c = search (part-order, needs)
+
+part-result-start : tie.Need-part-result-start
+part-result-start c = search (part-order, needs)
+
+part-result-end : tie.Need-part-result-end
+part-result-end c = search (part-inside, needs)
+
+returns : tie.Need-returns
+returns c = search needs
+
+returns-2 : tie.Need-returns-2
+returns-2 c = search (part-taken, needs)
+
+pub part-or-spec : {M : Type 1} → statement M
+part-or-spec =
+    tie.close
+    (tie.spec
+    enum-told
+    enum-known-part
+    sub-result
+    part-result-start
+    part-result-end
+    returns
+    returns-2)
