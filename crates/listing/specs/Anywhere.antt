@@ -28,15 +28,17 @@ plainLies n p l z = pick (leb (p + 8 + z + z % 2) n) (leb l 17) false
 abbrev pub groupAt : List ℕ → Cursor → Bool
 groupAt s cur = isGroup (kindOf (word s (cur .place)))
 
-abbrev pub chunkLies : Bool → ℕ → ℕ → ℕ → ℕ → Bool
-chunkLies g n p l z = pick g (groupLies n p l z) (plainLies n p l z)
+-- the chunk at the cursor does, if g tells whether it is a group
+abbrev pub kindLies : List ℕ → Cursor → Bool → Bool
+kindLies s cur g =
+    pick g (groupLies (length s) (cur .place) (cur .level) (word s (cur .place + 4))) (plainLies (length s) (cur .place) (cur .level) (word s (cur .place + 4)))
 
 -- A chunk lies at the cursor, of a number that it can have.
 abbrev pub liesAt : List ℕ → Cursor → Bool
 liesAt s cur =
     pick (leb (length s) 16777216)
     (pick (leb (cur .number) (cur .place))
-    (pick (leb (cur .place + 8) (length s)) (chunkLies (groupAt s cur) (length s) (cur .place) (cur .level) (word s (cur .place + 4))) false) false) false
+    (pick (leb (cur .place + 8) (length s)) (kindLies s cur (groupAt s cur)) false) false) false
 
 -- the record of the chunk there, and where the cursor goes
 abbrev pub readAt : List ℕ → Cursor → Listed
@@ -74,28 +76,30 @@ group-facts n p l z e =
 plain-facts : (n p l z : ℕ) → plainLies n p l z ≡ true → (p + 8 + z + z % 2 ≤ n) × (l ≤ 17)
 plain-facts n p l z e = let a = both (p + 8 + z + z % 2) n (leb l 17) e in (a .0, leb-true l 17 (a .1))
 
--- what is told of the chunk by its kind
-by-kind : (s : List ℕ) (cur : Cursor) (g : Bool) → groupAt s cur ≡ g → chunkLies (groupAt s cur) (length s) (cur .place) (cur .level) (word s (cur .place + 4)) ≡ true → chunkLies g (length s) (cur .place) (cur .level) (word s (cur .place + 4)) ≡ true
-by-kind s cur g i t = ap (λ (x : Bool). chunkLies x (length s) (cur .place) (cur .level) (word s (cur .place + 4))) (sym i) ∙ t
+module _ (s : List ℕ) (cur : Cursor) where
+  -- what is told of the chunk by its kind
+  told-group : kindLies s cur true ≡ true → (cur .place + 12 ≤ length s) × (cur .place + 8 + word s (cur .place + 4) ≤ length s) × (1 ≤ cur .level) × (cur .level ≤ 16)
+  told-group t = group-facts (length s) (cur .place) (cur .level) (word s (cur .place + 4)) t
 
-known :
-    (s : List ℕ) (cur : Cursor) → length s ≤ 16777216 → cur .number ≤ cur .place → cur .place + 8 ≤ length s →
-    chunkLies (groupAt s cur) (length s) (cur .place) (cur .level) (word s (cur .place + 4)) ≡ true → Lies s cur
-known s cur a b c t = record {
-  short = a;
-  header = c;
-  type = λ i. group-facts (length s) (cur .place) (cur .level) (word s (cur .place + 4)) (by-kind s cur true i t) .0;
-  into = λ i. let f = group-facts (length s) (cur .place) (cur .level) (word s (cur .place + 4)) (by-kind s cur true i t) in record { type = omega arith; ends = omega arith; low = b; level = f .2; slot = f .3 };
-  past = λ i. let f = plain-facts (length s) (cur .place) (cur .level) (word s (cur .place + 4)) (by-kind s cur false i t) in record { ends = omega arith; low = b; deep = f .1 };
-}
+  told-plain : kindLies s cur false ≡ true → (cur .place + 8 + word s (cur .place + 4) + word s (cur .place + 4) % 2 ≤ length s) × (cur .level ≤ 17)
+  told-plain t = plain-facts (length s) (cur .place) (cur .level) (word s (cur .place + 4)) t
 
-pub lies-known : (s : List ℕ) (cur : Cursor) → liesAt s cur ≡ true → Lies s cur
-lies-known s cur e =
-    let t : Bool = chunkLies (groupAt s cur) (length s) (cur .place) (cur .level) (word s (cur .place + 4)) in
-    let a = both (length s) 16777216 (pick (leb (cur .number) (cur .place)) (pick (leb (cur .place + 8) (length s)) t false) false) e in
-    let b = both (cur .number) (cur .place) (pick (leb (cur .place + 8) (length s)) t false) (a .1) in
-    let c = both (cur .place + 8) (length s) t (b .1) in
-    known s cur (a .0) (b .0) (c .0) (c .1)
+  known : length s ≤ 16777216 → cur .number ≤ cur .place → cur .place + 8 ≤ length s → kindLies s cur (groupAt s cur) ≡ true → Lies s cur
+  known a b c t = record {
+    short = a;
+    header = c;
+    type = λ i. told-group (ap (kindLies s cur) (sym i) ∙ t) .0;
+    into = λ i. let f = told-group (ap (kindLies s cur) (sym i) ∙ t) in record { type = omega arith; ends = omega arith; low = b; level = f .2; slot = f .3 };
+    past = λ i. let f = told-plain (ap (kindLies s cur) (sym i) ∙ t) in record { ends = omega arith; low = b; deep = f .1 };
+  }
+
+  pub lies-known : liesAt s cur ≡ true → Lies s cur
+  lies-known e =
+      let t : Bool = kindLies s cur (groupAt s cur) in
+      let a = both (length s) 16777216 (pick (leb (cur .number) (cur .place)) (pick (leb (cur .place + 8) (length s)) t false) false) e in
+      let b = both (cur .number) (cur .place) (pick (leb (cur .place + 8) (length s)) t false) (a .1) in
+      let c = both (cur .place + 8) (length s) t (b .1) in
+      known (a .0) (b .0) (c .0) (c .1)
 
 group-from : (n p l z : ℕ) → p + 12 ≤ n → p + 8 + z ≤ n → 1 ≤ l → l ≤ 16 → groupLies n p l z ≡ true
 group-from n p l z a b c d = rw (le-leb (p + 12) n a, le-leb (p + 8 + z) n b, le-leb 1 l c, le-leb l 16 d)
@@ -109,7 +113,7 @@ module _ (s : List ℕ) (cur : Cursor) (at : Located s cur) (more : cur .number 
       rw (le-leb (length s) 16777216 (at .short), le-leb (cur .number) (cur .place) (at .stands .low), le-leb (cur .place + 8) (length s) (located-header s cur at more))
       (by-kind (groupAt s cur) refl)
     where
-      by-kind : (g : Bool) → groupAt s cur ≡ g → chunkLies g (length s) (cur .place) (cur .level) (word s (cur .place + 4)) ≡ true
+      by-kind : (g : Bool) → groupAt s cur ≡ g → kindLies s cur g ≡ true
       by-kind true i = let h = located-enterable s cur at more i in group-from _ _ _ _ (located-type s cur at more i) (located-end s cur at more i) (h .level) (h .slot)
       by-kind false i = plain-from _ _ _ _ (located-past s cur at more i) (located-passable s cur at more i .deep)
 

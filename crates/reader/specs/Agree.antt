@@ -104,7 +104,7 @@ refused-ends s k p i v =
     let none : placeOf s i .chunks ≤ placeOf s i .cursor .number = omega (arith, none-read s k p v i) in
     rw (le-leb (placeOf s i .chunks) (placeOf s i .cursor .number) none)
 
--- After i steps the reader of any file gives record i, and the end where there is none.
+-- After i steps the reader of any file, a list of bytes, gives record i, and the end where there is none.
 pub reader-gives : (s : List ℕ) → Bytes s → (i : ℕ) → stepAt s (placeOf s i) ≡ stepIn (recordOf s i)
 reader-gives s b i = go (checkOf s) refl
   where
