@@ -1,16 +1,16 @@
 -- One law for each way through the functions that look for the next piece: a turn of a loop steps over one byte of the definition.
 use Prim.Native.Nat.{ℕ, zero, suc, _+_, _-_, _<_, _≤_}
-use mathlib.Core.Path.{_≡_, refl, ap, _∙_}
+use mathlib.Core.Path.{_≡_, refl, sym, ap, _∙_}
 use mathlib.Core.List.{List, [], _∷_}
 use mathlib.Core.Bool.{Bool, true, false}
 use lib.ListN.{length, getD, drop, length-drop}
 use lib.Seq.{getD-drop, drop-drop}
 use lib.Dec.{ltb, eqb}
-use borrow.Author.Tests.{eq-eqb, ne-eqb, ltb-true, ltb-false}
+use borrow.Author.Tests.{eq-eqb, ne-eqb, eqb-true, ltb-true, ltb-false}
 use native.Mathlib.Omega.{arith}
 use native.Mathlib.Nat.{add-zero}
 use Rattle.byterun.specs.ByteRun.{pick}
-use Rattle.pack.specs.Pack.{three, sameFor, plainFor, pieceOf}
+use Rattle.pack.specs.Pack.{three, Four, sameFor, plainFor, pieceOf}
 use Rattle.pack.specs.declared.Piece.the-variants.{Repeat, Literal}
 
 pub first : (row : List ℕ) (i : ℕ) → getD (drop i row) 0 0 ≡ getD row i 0
@@ -31,6 +31,10 @@ enough [] h = absurd (omega arith)
 enough (a ∷ []) h = absurd (omega arith)
 enough (a ∷ b ∷ []) h = absurd (omega arith)
 enough (a ∷ b ∷ c ∷ xs) h = refl
+
+neither : (t : Bool) → pick t false false ≡ false
+neither true = refl
+neither false = refl
 
 module _ (row : List ℕ) (i : ℕ) where
   pub three-few : length row - i < 3 → false ≡ three (drop i row)
@@ -141,17 +145,17 @@ module _ (row : List ℕ) (i k : ℕ) where
         pub plain-stop : t ≡ true → k ≡ v
         plain-stop e = let z = simp (← is, e) at (passed h) in omega arith
 
-        pub plain-more : t ≡ false → (k + 1) + plainFor (128 - (k + 1)) (drop (i + (k + 1)) row) ≡ v
+        plain-more : t ≡ false → (k + 1) + plainFor (128 - (k + 1)) (drop (i + (k + 1)) row) ≡ v
         plain-more e = let z = simp (← is, e) at (passed h) in omega arith
 
       module _ (d : last ≤ k) (f : k ≤ last) (g : i + k ≤ length row) where
-        pub plain-short : length row - i < 128 → length row - i ≡ v
+        plain-short : length row - i < 128 → length row - i ≡ v
         plain-short h =
             let o = w .2 (omega arith) in
             let z = plain-two (drop (i + k) row) (128 - k) (rw length-drop (omega arith)) (rw length-drop (omega arith)) in
             let y = rw (z, length-drop) at u in omega arith
 
-        pub plain-long : 128 ≤ length row - i → 128 ≡ v
+        plain-long : 128 ≤ length row - i → 128 ≡ v
         plain-long h = go (ltb last 128) refl
           where
             go : (t : Bool) → ltb last 128 ≡ t → 128 ≡ v
@@ -163,7 +167,72 @@ module _ (row : List ℕ) (i k : ℕ) where
                 let n : 128 - k ≡ 0 = omega arith in
                 let z = rw (n, plain-zero (drop (i + k) row)) at u in omega arith
 
-pub ruleset lengths = (same-starts, same-out, same-full, same-stop, same-more, plain-starts, plain-short, plain-long, plain-stop, plain-more)
+-- ---- four bytes b at once
+
+module _ (row : List ℕ) (i b : ℕ) where
+  pub four-other : false ≡ true → Four b i row
+  four-other e = let z : _≡_ {A = ℕ} 0 1 = cc in absurd (omega arith)
+
+  pub four-same : getD row i 0 ≡ b → getD row (i + 1) 0 ≡ b → getD row (i + 2) 0 ≡ b → eqb (getD row (i + 3) 0) b ≡ true → Four b i row
+  four-same x y z e = (x, y, z, eqb-true (getD row (i + 3) 0) b e)
+
+same-step :
+    (row : List ℕ) (i k m b v : ℕ) → m ≡ k + 1 → k + sameFor (128 - k) b (drop (i + k) row) ≡ v → k < 128 → k < length row - i → getD row (i + k) 0 ≡ b →
+    m + sameFor (128 - m) b (drop (i + m) row) ≡ v
+same-step row i k m b v e u g h f = rw e (same-more row i k b v u g h f)
+
+pub same-four :
+    (row : List ℕ) (i k b v : ℕ) → k + sameFor (128 - k) b (drop (i + k) row) ≡ v → (t : Bool) → (t ≡ true → Four b (i + k) row) →
+    (end : ℕ) → (end ≤ 128) × (end ≤ length row - i) × (length row - i < 128 → end ≡ length row - i) × (128 ≤ length row - i → end ≡ 128) → k + 4 ≤ end → t ≡ true →
+    (k + 4) + sameFor (128 - (k + 4)) b (drop (i + (k + 4)) row) ≡ v
+same-four row i k b v u t f end g l e =
+    let y = f e in
+    let e1 : i + (k + 1) ≡ i + k + 1 = omega arith in
+    let e2 : i + (k + 2) ≡ i + k + 2 = omega arith in
+    let e3 : i + (k + 3) ≡ i + k + 3 = omega arith in
+    let u1 = same-step row i k (k + 1) b v refl u (omega arith) (omega arith) (y .0) in
+    let u2 = same-step row i (k + 1) (k + 2) b v (omega arith) u1 (omega arith) (omega arith) (rw e1 (y .1)) in
+    let u3 = same-step row i (k + 2) (k + 3) b v (omega arith) u2 (omega arith) (omega arith) (rw e2 (y .2)) in
+    same-step row i (k + 3) (k + 4) b v (omega arith) u3 (omega arith) (omega arith) (rw e3 (y .3))
+
+module _ (row : List ℕ) (i k v : ℕ) (u : k + plainFor (128 - k) (drop (i + k) row) ≡ v) (last : ℕ) (w : (last ≤ 128) × (last ≤ length row - i - 2) × (last < 128 → length row - i - 2 ≤ last)) where
+  -- where the second byte and the third differ, neither the first nor the second starts three
+  pub plain-apart :
+      (t : Bool) → t ≡ eqb (getD row (i + k + 1) 0) (getD row (i + k + 1 + 1) 0) → k + 1 < last → t ≡ false →
+      (k + 2) + plainFor (128 - (k + 2)) (drop (i + (k + 2)) row) ≡ v
+  plain-apart t is h e =
+      let m : i + k + 1 + 1 ≡ i + k + 2 = omega arith in
+      let n : i + (k + 1) ≡ i + k + 1 = omega arith in
+      let p : eqb (getD row (i + k + 1) 0) (getD row (i + k + 2) 0) ≡ false = rw m at (sym is ∙ e) in
+      let z0 : false ≡ three (drop (i + k) row) = rw (seen row (i + k) (omega arith), p) (sym (neither (eqb (getD row (i + k) 0) (getD row (i + k + 1) 0)))) in
+      let z1 : false ≡ three (drop (i + (k + 1)) row) = rw (n, seen row (i + k + 1) (omega arith), m, p) in
+      let a = plain-more row i k v u last w false z0 (omega arith) refl in
+      let d : k + 1 + 1 ≡ k + 2 = omega arith in
+      rw d at (plain-more row i (k + 1) v a last w false z1 h refl)
+
+  module _ (t : Bool) (is : t ≡ three (drop (i + k) row)) (h : k + 1 < last) where
+    pub plain-found : t ≡ true → k ≡ v
+    plain-found e = plain-stop row i k v u last w t is (omega arith) e
+
+    pub plain-next : t ≡ false → (k + 1) + plainFor (128 - (k + 1)) (drop (i + (k + 1)) row) ≡ v
+    plain-next e = plain-more row i k v u last w t is (omega arith) e
+
+  module _ (r : ℕ) (q : (r ≤ 128) × (r ≤ length row - i) × (length row - i < 128 → r ≡ length row - i) × (128 ≤ length row - i → r ≡ 128)) where
+    pub plain-end : last ≤ k → k ≤ last → i + k ≤ length row → r ≡ v
+    plain-end d f g = go (ltb (length row - i) 128) refl
+      where
+        go : (t : Bool) → ltb (length row - i) 128 ≡ t → r ≡ v
+        go true e = let h = ltb-true (length row - i) 128 e in q .2 h ∙ plain-short row i k v u last w d f g h
+        go false e = let h = ltb-false (length row - i) 128 e in q .3 h ∙ plain-long row i k v u last w d f g h
+
+module _ (row : List ℕ) (i k v : ℕ) (u : k + plainFor (128 - k) (drop (i + k) row) ≡ v) (last : ℕ) (w : (last ≤ 128) × (last ≤ length row - i - 2) × (last < 128 → length row - i - 2 ≤ last)) where
+  pub plain-end-one :
+      (r : ℕ) → (r ≤ 128) × (r ≤ length row - i) × (length row - i < 128 → r ≡ length row - i) × (128 ≤ length row - i → r ≡ 128) →
+      (t : Bool) → t ≡ three (drop (i + k) row) → k < last → last ≤ k + 1 → t ≡ false → r ≡ v
+  plain-end-one r q t is h d e =
+      plain-end row i (k + 1) v (plain-more row i k v u last w t is h e) last w r q d (omega arith) (omega arith)
+
+pub ruleset lengths = (same-starts, same-out, same-full, same-stop, same-more, same-four, plain-starts, plain-end, plain-end-one, plain-stop, plain-found, plain-next, plain-apart)
 
 -- ---- the piece
 

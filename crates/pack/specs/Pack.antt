@@ -1,5 +1,6 @@
 -- The packing of one row by ByteRun1.
-use Prim.Native.Nat.{ℕ, zero, suc, _-_}
+use Prim.Native.Nat.{ℕ, zero, suc, _+_, _-_}
+use mathlib.Core.Path.{_≡_}
 use mathlib.Core.List.{List, [], _∷_, _++_}
 use mathlib.Core.Bool.{Bool, false}
 use lib.ListN.{length, getD, take, drop}
@@ -22,6 +23,10 @@ unfoldable pub sameFor : ℕ → ℕ → List ℕ → ℕ
 sameFor zero b xs = 0
 sameFor (suc most) b [] = 0
 sameFor (suc most) b (x ∷ xs) = pick (eqb x b) (suc (sameFor most b xs)) 0
+
+-- four bytes b stand at i
+abbrev pub Four : ℕ → ℕ → List ℕ → Type 0
+Four b i xs = (getD xs i 0 ≡ b) × (getD xs (i + 1) 0 ≡ b) × (getD xs (i + 2) 0 ≡ b) × (getD xs (i + 3) 0 ≡ b)
 
 -- how many bytes stand "up to where such a start comes, at most" so many
 unfoldable pub plainFor : ℕ → List ℕ → ℕ

@@ -40,7 +40,7 @@ rows-count n zero k xs = refl
 rows-count n (suc m) k xs = ap suc (rows-count n m (suc k) xs)
 
 -- a bit of row k
-row-bit : (n k x : ℕ) (xs : List ℕ) → x / 8 < n → bitAt (take n (drop (k * n) xs)) x ≡ getD xs (k * n + x / 8) 0 / 2 ^ (7 - x % 8) % 2
+pub row-bit : (n k x : ℕ) (xs : List ℕ) → x / 8 < n → bitAt (take n (drop (k * n) xs)) x ≡ getD xs (k * n + x / 8) 0 / 2 ^ (7 - x % 8) % 2
 row-bit n k x xs h = rw (getD-take n (drop (k * n) xs) (x / 8) 0 h, getD-drop (k * n) xs (x / 8) 0)
 
 -- the colour number of the planes from k on
@@ -55,6 +55,9 @@ module _ (buffer : List ℕ) (n planes x : ℕ) (h : planes ≤ 8) where
       let b : length (rowsIn n (planes - k) k buffer) ≤ 8 = rw rows-count (omega arith) in
       let d : 2 ^ length (rowsIn n (planes - k) k buffer) ≤ 2 ^ 8 = pow-mono b in
       record { is = e; small = omega arith }
+
+  pub colour-byte : (k : ℕ) → colourBy 1 x (rowsIn n (planes - k) k buffer) ≤ 255
+  colour-byte k = coloured k (colourBy 1 x (rowsIn n (planes - k) k buffer)) refl .small
 
   pub coloured-start : Coloured buffer n planes x planes 0
   unfolding colourBy rowsIn
@@ -111,6 +114,9 @@ module _ (planeRows : List (List ℕ)) where
   unfolding coloursFrom
   gathered-start row = record { is = refl }
 
+  pub gathered-from : (x : ℕ) (row : List ℕ) → take x row ≡ coloursFrom 0 x planeRows → Gathered planeRows x row
+  gathered-from x row e = record { is = e }
+
   module _ (x : ℕ) (row : List ℕ) (g : Gathered planeRows x row) where
     pub gathered-more : (colour : ℕ) → x < length row → colour ≡ colourBy 1 x planeRows → Gathered planeRows (x + 1) (set row x colour)
     gathered-more colour h e =
@@ -126,4 +132,4 @@ module _ (planeRows : List (List ℕ)) where
 pub pixel-inside : (x w n : ℕ) → x < w → w ≤ n * 8 → x / 8 < n
 pixel-inside x w n h l = omega arith
 
-pub ruleset gathering = (gathered-start, gathered-more, gathered-end, pixel-inside)
+pub ruleset gathering = (gathered-start, gathered-from, gathered-more, gathered-end, pixel-inside)

@@ -1,5 +1,6 @@
 pub mod Judging
 pub mod Writing
 pub mod Colours
+pub mod Eights
 pub mod Lines
 pub mod Frame

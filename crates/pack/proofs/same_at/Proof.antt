@@ -14,6 +14,9 @@ Inv-loop row i b k₀ k = (k ≤ 128) × (i + k ≤ length row) × (k + sameFor 
 abbrev μ-loop : tie.MeasureT-loop
 μ-loop row i b k₀ k = 128 - k
 
+fours-at-requires : tie.Need-fours-at-requires Inv-loop μ-loop
+fours-at-requires c κs = search needs
+
 loop-holds : tie.Need-loop-holds Inv-loop μ-loop
 loop-holds c = search (lengths, needs)
 
@@ -50,6 +53,7 @@ same-at-spec =
     (tie.spec
     Inv-loop
     μ-loop
+    fours-at-requires
     loop-holds
     sub-if1
     returns

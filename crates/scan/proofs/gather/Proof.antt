@@ -16,6 +16,9 @@ Inv-loop buffer n planes row₀ x₀ row x =
 abbrev μ-loop : tie.MeasureT-loop
 μ-loop buffer n planes row₀ x₀ row x = length row₀ - x
 
+gather-bytes-requires : tie.Need-gather-bytes-requires Inv-loop μ-loop
+gather-bytes-requires c κs = search needs
+
 loop-holds : tie.Need-loop-holds Inv-loop μ-loop
 loop-holds c = search (gathering, needs)
 
@@ -38,7 +41,7 @@ same-length : tie.Need-same-length Inv-loop μ-loop
 same-length c = search (gathering, needs)
 
 returns : tie.Need-returns Inv-loop μ-loop
-returns c = gathered-end _ _ _ (c .before .loop .inv .2) _ (c .before .loop .inv .1) (omega arith) (omega arith)
+returns c = gathered-end _ _ _ (c .before .loop .inv .2) _ (search needs) (search needs) (search needs)
 
 pub gather-spec : {M : Type 1} → statement M
 gather-spec =
@@ -46,6 +49,7 @@ gather-spec =
     (tie.spec
     Inv-loop
     μ-loop
+    gather-bytes-requires
     loop-holds
     colour-at-requires
     slice-write-row
