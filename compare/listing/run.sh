@@ -1,9 +1,7 @@
 #!/bin/sh
-# The reader and the table in proportion to the file, with a stack of 256 KiB.
+# The reader and the table in proportion to the file, with a stack of 256 KiB. Build the archive first (`rt staticlib listings`).
 set -eu
 cd "$(dirname "$0")/../.."
-mkdir -p target
-rt staticlib listings > target/listings.log 2>&1 || { cat target/listings.log; exit 1; }
-rustc --edition 2021 -O -o target/listing_measured compare/listing/listing.rs -L target/staticlib -l static=listings
+rustc --edition 2021 -O -o target/listing compare/listing/listing.rs -L target/staticlib -l static=listings
 ulimit -s 256
-exec target/listing_measured
+exec target/listing
