@@ -1,4 +1,3 @@
-pub mod Properties
 pub mod Told
 pub mod RowsTold
 pub mod WritingTold

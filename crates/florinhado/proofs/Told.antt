@@ -14,7 +14,8 @@ use Rattle.pack.specs.declared.PackAnswer.{PackAnswer}
 use Rattle.pack.specs.declared.PackAnswer.the-variants.{Written as Pack-written, BadLength, NoRoom}
 use Rattle.count.specs.declared.Counted.{Counted}
 use Rattle.count.specs.declared.Counted.the-variants.{Pictures, Refused as Counted-refused}
-use Rattle.florinhado.specs.Numbers.{CheckTold, checkTold, kindNumber, RecordTold, recordTold, DataTold, dataTold, OneTold, copyTold, countTold, PackTold, packTold}
+use Rattle.answers.specs.Properties.{kindNumber}
+use Rattle.florinhado.specs.Numbers.{CheckTold, checkTold, RecordTold, recordTold, DataTold, dataTold, OneTold, copyTold, countTold, PackTold, packTold}
 
 module _ (x v : Verdict) (a : v ≡ x) where
   pub check-accepted :

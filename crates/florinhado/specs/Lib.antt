@@ -1,4 +1,3 @@
 pub mod Numbers
-pub mod Properties
 pub mod Rows
 pub mod Writing

@@ -1,8 +1,7 @@
 -- The numbers that 01 tells for each answer: 0 or the refusal's number, its place, and the values;
 -- "any other number told beside it is 0".
 use Prim.Native.Nat.{ℕ}
-use Rattle.name.specs.declared.Kind.{Kind}
-use Rattle.name.specs.declared.Kind.the-variants.{FORM, LIST, CAT, PROP, FILLER, LOCAL}
+use Rattle.answers.specs.Properties.{kindNumber}
 use Rattle.tree.specs.declared.Verdict.{Verdict}
 use Rattle.tree.specs.declared.Verdict.the-variants.{Accepted, Refused}
 use Rattle.listing.specs.declared.Listed.{Listed}
@@ -27,15 +26,6 @@ pub record CheckTold : Type 0 where
 unfoldable pub checkTold : Verdict → CheckTold
 checkTold (Accepted c e t) = record { number = 0; place = 0; chunks = c; end = e; trailing = t }
 checkTold (Refused k p) = record { number = k; place = p; chunks = 0; end = 0; trailing = 0 }
-
--- the kinds of a listing: FORM 1, LIST 2, CAT 3, PROP 4, local 5, filler 6
-abbrev pub kindNumber : Kind → ℕ
-kindNumber FORM = 1
-kindNumber LIST = 2
-kindNumber CAT = 3
-kindNumber PROP = 4
-kindNumber LOCAL = 5
-kindNumber FILLER = 6
 
 pub record RecordTold : Type 0 where
   pub number : ℕ

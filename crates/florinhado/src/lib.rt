@@ -3,20 +3,19 @@
 mod raster;
 mod writing;
 
+use answers::destination_told;
+use answers::grab_told;
+use answers::header_told;
+use answers::kind_number;
+use answers::palette_parts;
+use answers::sprite_told;
+use answers::view_mode_told;
 use copy::Copied;
 use count::Counted;
-use ilbm::BitmapHeader;
-use ilbm::Destination;
-use ilbm::HotSpot;
-use ilbm::Origin;
-use ilbm::PictureAnswer;
 use listing::Extent;
 use listing::Listed;
-use members::Part;
-use name::Kind;
 use pack::PackAnswer;
 use tree::Verdict;
-use view::View;
 use view::view_picture;
 ghost use mathlib.Core.Path.{_≡_};
 ghost use mathlib.Core.List.{[]};
@@ -28,10 +27,9 @@ ghost use Rattle.listing.specs.Contents.{extentOf};
 ghost use Rattle.copy.specs.Clean.{copyOf, copiedInto};
 ghost use Rattle.count.specs.Count.{countOf};
 ghost use Rattle.ilbm.specs.Pictures.{pictureOf, paletteOf};
-ghost use Rattle.members.specs.Members.{fromOf};
 ghost use Rattle.pack.specs.Pack.{packOf, outAfter};
-ghost use Rattle.florinhado.specs.Properties.{originNumber, sharedPlace, headerTold, grabTold, destinationTold, spriteTold, viewModeTold, toOf, paletteParts, paletteExtent};
-ghost use Rattle.florinhado.specs.Numbers.{checkTold, kindNumber, recordTold, dataTold, copyTold, countTold, packTold};
+ghost use Rattle.answers.specs.Properties.{headerTold, grabTold, destinationTold, spriteTold, viewModeTold, paletteExtent};
+ghost use Rattle.florinhado.specs.Numbers.{checkTold, recordTold, dataTold, copyTold, countTold, packTold};
 
 // Judges a file: chunks, end of the outermost chunk, bytes after it.
 #[no_mangle]
@@ -65,19 +63,6 @@ pub extern "C" fn iff_check(
             *trailing = 0;
             number
         }
-    }
-}
-
-fn kind_number(k: Kind) -> usize
-    ensures { λ r. ⌜ r ≡ kindNumber k ⌝ }
-{
-    match k {
-        Kind::FORM => 1,
-        Kind::LIST => 2,
-        Kind::CAT => 3,
-        Kind::PROP => 4,
-        Kind::LOCAL => 5,
-        Kind::FILLER => 6,
     }
 }
 
@@ -209,74 +194,6 @@ pub extern "C" fn iff_count_pictures(file: &[u8], place: &mut usize, pictures: &
     }
 }
 
-fn origin_number(o: Origin) -> usize
-    ensures { λ r. ⌜ r ≡ originNumber o ⌝ }
-{
-    match o {
-        Origin::Own => 1,
-        Origin::Shared(_) => 2,
-        Origin::Absent => 0,
-    }
-}
-
-fn shared_place(o: Origin) -> usize
-    ensures { λ r. ⌜ r ≡ sharedPlace o ⌝ }
-{
-    match o {
-        Origin::Own => 0,
-        Origin::Shared(p) => p,
-        Origin::Absent => 0,
-    }
-}
-
-// What is told of the BMHD that counts.
-struct HeaderTold {
-    number: usize,
-    place: usize,
-    header: BitmapHeader,
-    origin: usize,
-    shared: usize,
-}
-
-fn header_told(v: PictureAnswer) -> HeaderTold
-    ensures { λ r. ⌜ r ≡ headerTold v ⌝ }
-{
-    match v {
-        PictureAnswer::Shown(p) => {
-            let header = p.header;
-            let o = p.header_from;
-            HeaderTold {
-                number: 0,
-                place: 0,
-                header,
-                origin: origin_number(o),
-                shared: shared_place(o),
-            }
-        }
-        PictureAnswer::Refused { number, place } => HeaderTold {
-            number,
-            place,
-            header: BitmapHeader {
-                w: 0,
-                h: 0,
-                x: 0,
-                y: 0,
-                planes: 0,
-                masking: 0,
-                compression: 0,
-                pad1: 0,
-                transparent: 0,
-                x_aspect: 0,
-                y_aspect: 0,
-                page_width: 0,
-                page_height: 0,
-            },
-            origin: 0,
-            shared: 0,
-        },
-    }
-}
-
 // The fields of the BMHD that counts for a picture, and its origin.
 #[no_mangle]
 pub extern "C" fn ilbm_header(
@@ -347,40 +264,6 @@ pub extern "C" fn ilbm_header(
     told.number
 }
 
-// What is told of the GRAB that counts.
-struct GrabTold {
-    number: usize,
-    place: usize,
-    grab: HotSpot,
-    origin: usize,
-    shared: usize,
-}
-
-fn grab_told(v: PictureAnswer) -> GrabTold
-    ensures { λ r. ⌜ r ≡ grabTold v ⌝ }
-{
-    match v {
-        PictureAnswer::Shown(p) => {
-            let grab = p.grab;
-            let o = p.grab_from;
-            GrabTold {
-                number: 0,
-                place: 0,
-                grab,
-                origin: origin_number(o),
-                shared: shared_place(o),
-            }
-        }
-        PictureAnswer::Refused { number, place } => GrabTold {
-            number,
-            place,
-            grab: HotSpot { x: 0, y: 0 },
-            origin: 0,
-            shared: 0,
-        },
-    }
-}
-
 // The GRAB that counts for a picture, and its origin.
 #[no_mangle]
 pub extern "C" fn ilbm_grab(
@@ -411,46 +294,6 @@ pub extern "C" fn ilbm_grab(
     *origin = told.origin;
     *shared = told.shared;
     told.number
-}
-
-// What is told of the DEST that counts.
-struct DestinationTold {
-    number: usize,
-    place: usize,
-    destination: Destination,
-    origin: usize,
-    shared: usize,
-}
-
-fn destination_told(v: PictureAnswer) -> DestinationTold
-    ensures { λ r. ⌜ r ≡ destinationTold v ⌝ }
-{
-    match v {
-        PictureAnswer::Shown(p) => {
-            let destination = p.destination;
-            let o = p.destination_from;
-            DestinationTold {
-                number: 0,
-                place: 0,
-                destination,
-                origin: origin_number(o),
-                shared: shared_place(o),
-            }
-        }
-        PictureAnswer::Refused { number, place } => DestinationTold {
-            number,
-            place,
-            destination: Destination {
-                depth: 0,
-                pad1: 0,
-                plane_pick: 0,
-                plane_on_off: 0,
-                plane_mask: 0,
-            },
-            origin: 0,
-            shared: 0,
-        },
-    }
 }
 
 // The DEST that counts for a picture, and its origin.
@@ -489,40 +332,6 @@ pub extern "C" fn ilbm_dest(
     told.number
 }
 
-// What is told of the SPRT that counts.
-struct SpriteTold {
-    number: usize,
-    place: usize,
-    sprite: u16,
-    origin: usize,
-    shared: usize,
-}
-
-fn sprite_told(v: PictureAnswer) -> SpriteTold
-    ensures { λ r. ⌜ r ≡ spriteTold v ⌝ }
-{
-    match v {
-        PictureAnswer::Shown(p) => {
-            let sprite = p.sprite;
-            let o = p.sprite_from;
-            SpriteTold {
-                number: 0,
-                place: 0,
-                sprite,
-                origin: origin_number(o),
-                shared: shared_place(o),
-            }
-        }
-        PictureAnswer::Refused { number, place } => SpriteTold {
-            number,
-            place,
-            sprite: 0,
-            origin: 0,
-            shared: 0,
-        },
-    }
-}
-
 // The SPRT that counts for a picture, and its origin.
 #[no_mangle]
 pub extern "C" fn ilbm_sprite(
@@ -550,40 +359,6 @@ pub extern "C" fn ilbm_sprite(
     told.number
 }
 
-// What is told of the CAMG that counts.
-struct ViewModeTold {
-    number: usize,
-    place: usize,
-    view_mode: u32,
-    origin: usize,
-    shared: usize,
-}
-
-fn view_mode_told(v: PictureAnswer) -> ViewModeTold
-    ensures { λ r. ⌜ r ≡ viewModeTold v ⌝ }
-{
-    match v {
-        PictureAnswer::Shown(p) => {
-            let view_mode = p.view_mode;
-            let o = p.view_mode_from;
-            ViewModeTold {
-                number: 0,
-                place: 0,
-                view_mode,
-                origin: origin_number(o),
-                shared: shared_place(o),
-            }
-        }
-        PictureAnswer::Refused { number, place } => ViewModeTold {
-            number,
-            place,
-            view_mode: 0,
-            origin: 0,
-            shared: 0,
-        },
-    }
-}
-
 // The CAMG that counts for a picture, and its origin.
 #[no_mangle]
 pub extern "C" fn ilbm_view_mode(
@@ -609,62 +384,6 @@ pub extern "C" fn ilbm_view_mode(
     *origin = told.origin;
     *shared = told.shared;
     told.number
-}
-
-fn part_from(part: Part) -> usize
-    ensures { λ r. ⌜ r ≡ fromOf part ⌝ }
-{
-    match part {
-        Part::Nothing => 0,
-        Part::Between(from, _) => from,
-    }
-}
-
-fn part_to(part: Part) -> usize
-    ensures { λ r. ⌜ r ≡ toOf part ⌝ }
-{
-    match part {
-        Part::Nothing => 0,
-        Part::Between(_, to) => to,
-    }
-}
-
-// What is told of the CMAP that counts: its origin, and its part of the file.
-struct PaletteParts {
-    number: usize,
-    place: usize,
-    origin: usize,
-    shared: usize,
-    from: usize,
-    to: usize,
-}
-
-fn palette_parts(v: View) -> PaletteParts
-    ensures { λ r. ⌜ r ≡ paletteParts v ⌝ }
-{
-    match v {
-        View::Seen(c) => {
-            let cmap = c.cmap;
-            let part = cmap.part;
-            let o = cmap.origin;
-            PaletteParts {
-                number: 0,
-                place: 0,
-                origin: origin_number(o),
-                shared: shared_place(o),
-                from: part_from(part),
-                to: part_to(part),
-            }
-        }
-        View::Unseen(number, place) => PaletteParts {
-            number,
-            place,
-            origin: 0,
-            shared: 0,
-            from: 0,
-            to: 0,
-        },
-    }
 }
 
 // Where the CMAP that counts for a picture lies in the file, and its origin; with origin 0 the caller's default is the palette.

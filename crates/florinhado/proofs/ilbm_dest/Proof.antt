@@ -1,11 +1,11 @@
 -- What is stored is what `destination_told` tells of the answer of `picture`.
 use borrow.Author.Needs.{needs}
-use Rattle.florinhado.proofs.Properties.{destination-of}
+use Rattle.answers.proofs.Properties.{destination-of}
 use Rattle.florinhado.proofs.ilbm_dest.Statement.{statement}
 use Rattle.florinhado.proofs.ilbm_dest.Tie as tie
 use Rattle.florinhado.proofs.ilbm_dest.Reads as reads
 use Rattle.florinhado.proofs.ilbm_dest.Lts as lts
-use Rattle.florinhado.proofs.destination_told.Reads as destination-told-reads
+use Rattle.answers.proofs.destination_told.Reads as destination-told-reads
 use Rattle.picture.proofs.picture.Reads as picture-reads
 
 picture-requires : tie.Need-picture-requires

@@ -1,11 +1,11 @@
 -- What is stored is what `grab_told` tells of the answer of `picture`.
 use borrow.Author.Needs.{needs}
-use Rattle.florinhado.proofs.Properties.{grab-of}
+use Rattle.answers.proofs.Properties.{grab-of}
 use Rattle.florinhado.proofs.ilbm_grab.Statement.{statement}
 use Rattle.florinhado.proofs.ilbm_grab.Tie as tie
 use Rattle.florinhado.proofs.ilbm_grab.Reads as reads
 use Rattle.florinhado.proofs.ilbm_grab.Lts as lts
-use Rattle.florinhado.proofs.grab_told.Reads as grab-told-reads
+use Rattle.answers.proofs.grab_told.Reads as grab-told-reads
 use Rattle.picture.proofs.picture.Reads as picture-reads
 
 picture-requires : tie.Need-picture-requires

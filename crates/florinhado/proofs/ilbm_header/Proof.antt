@@ -1,11 +1,11 @@
 -- What is stored is what `header_told` tells of the answer of `picture`; the signed fields go through bits, and fit.
 use borrow.Author.Needs.{needs}
-use Rattle.florinhado.proofs.Properties.{header-stored}
+use Rattle.answers.proofs.Properties.{header-stored}
 use Rattle.florinhado.proofs.ilbm_header.Statement.{statement}
 use Rattle.florinhado.proofs.ilbm_header.Tie as tie
 use Rattle.florinhado.proofs.ilbm_header.Reads as reads
 use Rattle.florinhado.proofs.ilbm_header.Lts as lts
-use Rattle.florinhado.proofs.header_told.Reads as header-told-reads
+use Rattle.answers.proofs.header_told.Reads as header-told-reads
 use Rattle.picture.proofs.picture.Reads as picture-reads
 
 picture-requires : tie.Need-picture-requires

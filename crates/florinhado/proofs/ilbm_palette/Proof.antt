@@ -1,11 +1,11 @@
 -- What is stored is what `palette_parts` tells of the view: the part begins at the place of the CMAP that counts and holds its data.
 use borrow.Author.Needs.{needs}
-use Rattle.florinhado.proofs.Properties.{palette-told, palette-part}
+use Rattle.answers.proofs.Properties.{palette-told, palette-part}
 use Rattle.florinhado.proofs.ilbm_palette.Statement.{statement}
 use Rattle.florinhado.proofs.ilbm_palette.Tie as tie
 use Rattle.florinhado.proofs.ilbm_palette.Reads as reads
 use Rattle.florinhado.proofs.ilbm_palette.Lts as lts
-use Rattle.florinhado.proofs.palette_parts.Reads as palette-parts-reads
+use Rattle.answers.proofs.palette_parts.Reads as palette-parts-reads
 use Rattle.view.proofs.view_picture.Reads as view-picture-reads
 
 view-picture-requires : tie.Need-view-picture-requires

@@ -1,11 +1,11 @@
 -- What is stored is what `sprite_told` tells of the answer of `picture`.
 use borrow.Author.Needs.{needs}
-use Rattle.florinhado.proofs.Properties.{sprite-of}
+use Rattle.answers.proofs.Properties.{sprite-of}
 use Rattle.florinhado.proofs.ilbm_sprite.Statement.{statement}
 use Rattle.florinhado.proofs.ilbm_sprite.Tie as tie
 use Rattle.florinhado.proofs.ilbm_sprite.Reads as reads
 use Rattle.florinhado.proofs.ilbm_sprite.Lts as lts
-use Rattle.florinhado.proofs.sprite_told.Reads as sprite-told-reads
+use Rattle.answers.proofs.sprite_told.Reads as sprite-told-reads
 use Rattle.picture.proofs.picture.Reads as picture-reads
 
 picture-requires : tie.Need-picture-requires

@@ -1,11 +1,11 @@
 -- What is stored is what `view_mode_told` tells of the answer of `picture`.
 use borrow.Author.Needs.{needs}
-use Rattle.florinhado.proofs.Properties.{view-mode-of}
+use Rattle.answers.proofs.Properties.{view-mode-of}
 use Rattle.florinhado.proofs.ilbm_view_mode.Statement.{statement}
 use Rattle.florinhado.proofs.ilbm_view_mode.Tie as tie
 use Rattle.florinhado.proofs.ilbm_view_mode.Reads as reads
 use Rattle.florinhado.proofs.ilbm_view_mode.Lts as lts
-use Rattle.florinhado.proofs.view_mode_told.Reads as view-mode-told-reads
+use Rattle.answers.proofs.view_mode_told.Reads as view-mode-told-reads
 use Rattle.picture.proofs.picture.Reads as picture-reads
 
 picture-requires : tie.Need-picture-requires

@@ -1,12 +1,12 @@
 -- By the cases of the answer: the fields are copied, or 0 beside a refusal.
 use borrow.Author.Needs.{needs}
-use Rattle.florinhado.proofs.Properties.{destination-shown, destination-refused}
-use Rattle.florinhado.proofs.destination_told.Statement.{statement}
-use Rattle.florinhado.proofs.destination_told.Tie as tie
-use Rattle.florinhado.proofs.destination_told.Reads as reads
-use Rattle.florinhado.proofs.destination_told.Lts as lts
-use Rattle.florinhado.proofs.origin_number.Reads as origin-number-reads
-use Rattle.florinhado.proofs.shared_place.Reads as shared-place-reads
+use Rattle.answers.proofs.Properties.{destination-shown, destination-refused}
+use Rattle.answers.proofs.destination_told.Statement.{statement}
+use Rattle.answers.proofs.destination_told.Tie as tie
+use Rattle.answers.proofs.destination_told.Reads as reads
+use Rattle.answers.proofs.destination_told.Lts as lts
+use Rattle.answers.proofs.origin_number.Reads as origin-number-reads
+use Rattle.answers.proofs.shared_place.Reads as shared-place-reads
 
 enum-known-v : tie.Need-enum-known-v
 enum-known-v c = search needs

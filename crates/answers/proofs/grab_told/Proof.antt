@@ -1,12 +1,12 @@
 -- By the cases of the answer: the fields are copied, or 0 beside a refusal.
 use borrow.Author.Needs.{needs}
-use Rattle.florinhado.proofs.Properties.{header-shown, header-refused}
-use Rattle.florinhado.proofs.header_told.Statement.{statement}
-use Rattle.florinhado.proofs.header_told.Tie as tie
-use Rattle.florinhado.proofs.header_told.Reads as reads
-use Rattle.florinhado.proofs.header_told.Lts as lts
-use Rattle.florinhado.proofs.origin_number.Reads as origin-number-reads
-use Rattle.florinhado.proofs.shared_place.Reads as shared-place-reads
+use Rattle.answers.proofs.Properties.{grab-shown, grab-refused}
+use Rattle.answers.proofs.grab_told.Statement.{statement}
+use Rattle.answers.proofs.grab_told.Tie as tie
+use Rattle.answers.proofs.grab_told.Reads as reads
+use Rattle.answers.proofs.grab_told.Lts as lts
+use Rattle.answers.proofs.origin_number.Reads as origin-number-reads
+use Rattle.answers.proofs.shared_place.Reads as shared-place-reads
 
 enum-known-v : tie.Need-enum-known-v
 enum-known-v c = search needs
@@ -21,13 +21,13 @@ enum-known-v-2 : tie.Need-enum-known-v-2
 enum-known-v-2 c = search needs
 
 returns : tie.Need-returns
-returns c = search (header-shown, needs)
+returns c = search (grab-shown, needs)
 
 returns-2 : tie.Need-returns-2
-returns-2 c = search (header-refused, needs)
+returns-2 c = search (grab-refused, needs)
 
-pub header-told-spec : {M : Type 1} → statement M
-header-told-spec =
+pub grab-told-spec : {M : Type 1} → statement M
+grab-told-spec =
     tie.close
     (tie.spec
     enum-known-v

@@ -25,13 +25,13 @@ use Rattle.content.specs.Held.{HeldIs}
 use Rattle.view.specs.declared.View.{View}
 use Rattle.view.specs.declared.View.the-variants.{Seen, Unseen}
 use Rattle.view.specs.Seen.{ViewIs, Begins, Placed}
-use Rattle.florinhado.specs.declared.HeaderTold.{HeaderTold}
-use Rattle.florinhado.specs.declared.GrabTold.{GrabTold}
-use Rattle.florinhado.specs.declared.DestinationTold.{DestinationTold}
-use Rattle.florinhado.specs.declared.SpriteTold.{SpriteTold}
-use Rattle.florinhado.specs.declared.ViewModeTold.{ViewModeTold}
-use Rattle.florinhado.specs.declared.PaletteParts.{PaletteParts}
-use Rattle.florinhado.specs.Properties.{originNumber, sharedPlace, noHeader, headerTold, grabTold, destinationTold, spriteTold, viewModeTold, paletteTold, paletteExtent, toOf, paletteParts}
+use Rattle.answers.specs.declared.HeaderTold.{HeaderTold}
+use Rattle.answers.specs.declared.GrabTold.{GrabTold}
+use Rattle.answers.specs.declared.DestinationTold.{DestinationTold}
+use Rattle.answers.specs.declared.SpriteTold.{SpriteTold}
+use Rattle.answers.specs.declared.ViewModeTold.{ViewModeTold}
+use Rattle.answers.specs.declared.PaletteParts.{PaletteParts}
+use Rattle.answers.specs.Properties.{originNumber, sharedPlace, noHeader, headerTold, grabTold, destinationTold, spriteTold, viewModeTold, paletteTold, paletteExtent, toOf, paletteParts}
 
 module _ (v : PictureAnswer) (p : Picture) (b : v ≡ Shown p) (k m : ℕ) where
   pub header-shown :

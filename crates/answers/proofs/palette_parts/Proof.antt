@@ -1,14 +1,14 @@
 -- By the cases of the view: the part and the origin of its CMAP, or 0 beside a refusal.
 use borrow.Author.Needs.{needs}
-use Rattle.florinhado.proofs.Properties.{parts-seen, parts-unseen}
-use Rattle.florinhado.proofs.palette_parts.Statement.{statement}
-use Rattle.florinhado.proofs.palette_parts.Tie as tie
-use Rattle.florinhado.proofs.palette_parts.Reads as reads
-use Rattle.florinhado.proofs.palette_parts.Lts as lts
-use Rattle.florinhado.proofs.origin_number.Reads as origin-number-reads
-use Rattle.florinhado.proofs.part_from.Reads as part-from-reads
-use Rattle.florinhado.proofs.part_to.Reads as part-to-reads
-use Rattle.florinhado.proofs.shared_place.Reads as shared-place-reads
+use Rattle.answers.proofs.Properties.{parts-seen, parts-unseen}
+use Rattle.answers.proofs.palette_parts.Statement.{statement}
+use Rattle.answers.proofs.palette_parts.Tie as tie
+use Rattle.answers.proofs.palette_parts.Reads as reads
+use Rattle.answers.proofs.palette_parts.Lts as lts
+use Rattle.answers.proofs.origin_number.Reads as origin-number-reads
+use Rattle.answers.proofs.part_from.Reads as part-from-reads
+use Rattle.answers.proofs.part_to.Reads as part-to-reads
+use Rattle.answers.proofs.shared_place.Reads as shared-place-reads
 
 enum-known-v : tie.Need-enum-known-v
 enum-known-v c = search needs
