@@ -11,7 +11,8 @@ use Rattle.tree.specs.Judge.{Found, found, readFile}
 use Rattle.ilbm.specs.declared.BitmapHeader.{BitmapHeader}
 use Rattle.ilbm.specs.Contents.{Property, own, shared, absent, Content, contentsOf}
 use Rattle.ilbm.specs.Pictures.{dataOf, counts, headerIn, wrongSize, pictureFault, Viewed, viewed, unseen, judged, pickContent, viewIn, viewOf}
-use Rattle.ilbm.specs.Pictures.{pictureAnswer, paletteFrom, paletteBytes}
+use Rattle.ilbm.specs.Pictures.{pictureAnswer, paletteFrom}
+use Rattle.ilbm.specs.Palette.{answerIn}
 use Rattle.ilbm.specs.Rows.{Read, onBody, askRows, lineRead, frameRead}
 use Rattle.ilbm.specs.Moved.{movedProperty, movedContent, mapContents}
 use Rattle.additions.specs.Statement.{movedView, SameAnswers}
@@ -49,8 +50,8 @@ module _ (move : ℕ → ℕ) where
   palette-from (shared p d) default = refl
   palette-from absent default = refl
 
-  palette-moved : (v : Viewed) (default : List ℕ) → paletteBytes (movedView move v) default ≡ paletteBytes v default
-  palette-moved (viewed c) default = palette-from (c .cmap) default
+  palette-moved : (v : Viewed) (default : List ℕ) → answerIn (movedView move v) default ≡ answerIn v default
+  palette-moved (viewed c) default = rw (palette-from (c .cmap) default)
   palette-moved (unseen k p) default = refl
 
   rows-moved : (v : Viewed) (rows : BitmapHeader → List ℕ → Read (List ℕ)) → askRows (movedView move v) rows ≡ askRows v rows
@@ -62,7 +63,7 @@ module _ (move : ℕ → ℕ) where
   same-answers f g c c′ ef eg e = record {
     views = view;
     pictures = λ i. ap pictureAnswer (view i);
-    palettes = λ i default. ap (λ (v : Viewed). paletteBytes v default) (view i) ∙ palette-moved (viewOf f i) default;
+    palettes = λ i default. ap (λ (v : Viewed). answerIn v default) (view i) ∙ palette-moved (viewOf f i) default;
     lines = λ i start room. ap (λ (v : Viewed). lineRead v start room) (view i) ∙ rows-moved (viewOf f i) _;
     frames = λ i room. ap (λ (v : Viewed). frameRead v room) (view i) ∙ rows-moved (viewOf f i) _;
   }

@@ -24,7 +24,8 @@ use Rattle.grammar.specs.Names.{members-regular, name-parts, group-chunk-name, 
 use Rattle.grammar.specs.Props.{Seen, seen-start, seen-step}
 use Rattle.grammar.specs.Headers.{header-leaf, header-group, new-second}
 use Rattle.grammar.specs.Complete.{group-complete, run-complete}
-use Rattle.ilbm.specs.Pictures.{viewIn, pictureAnswer, paletteBytes}
+use Rattle.ilbm.specs.Pictures.{viewIn, pictureAnswer}
+use Rattle.ilbm.specs.Palette.{answerIn}
 use Rattle.ilbm.specs.Rows.{lineRead, frameRead}
 use Rattle.additions.specs.Statement.{AllRefused}
 use Rattle.additions.specs.Bytes.{pass}
@@ -198,7 +199,7 @@ all-refused g p e = record {
   check = ap (verdictOf g) e;
   views = λ i. ap (λ (r : Found Chunk). viewIn r i) e;
   pictures = λ i. ap (λ (r : Found Chunk). pictureAnswer (viewIn r i)) e;
-  palettes = λ i default. ap (λ (r : Found Chunk). paletteBytes (viewIn r i) default) e;
+  palettes = λ i default. ap (λ (r : Found Chunk). answerIn (viewIn r i) default) e;
   lines = λ i start room. ap (λ (r : Found Chunk). lineRead (viewIn r i) start room) e;
   frames = λ i room. ap (λ (r : Found Chunk). frameRead (viewIn r i) room) e;
 }

@@ -11,7 +11,8 @@ use Rattle.grammar.specs.Words.{Bytes}
 use Rattle.grammar.specs.Grammar.{member}
 use Rattle.ilbm.specs.declared.PictureAnswer.the-variants.{Refused as Picture-refused}
 use Rattle.ilbm.specs.Moved.{movedContent}
-use Rattle.ilbm.specs.Pictures.{Viewed, viewed, unseen, viewOf, pictureOf, pictureAnswer, paletteOf}
+use Rattle.ilbm.specs.Pictures.{Viewed, viewed, unseen, viewOf, pictureOf, pictureAnswer}
+use Rattle.ilbm.specs.Palette.{paletteAnswer}
 use Rattle.ilbm.specs.Rows.{fault, lineOf, frameOf}
 use Rattle.additions.specs.Additions.{Addition, treeAfter, fileAfter, MayAddAll, movedBy, addedHeaders, Renaming, renamed, lowest}
 
@@ -25,7 +26,7 @@ movedView f (unseen k p) = unseen k p
 pub record SameAnswers (f g : List ℕ) (move : ℕ → ℕ) : Type 0 where
   pub views : (i : ℕ) → viewOf g i ≡ movedView move (viewOf f i)
   pub pictures : (i : ℕ) → pictureOf g i ≡ pictureAnswer (movedView move (viewOf f i))
-  pub palettes : (i : ℕ) (default : List ℕ) → paletteOf g i default ≡ paletteOf f i default
+  pub palettes : (i : ℕ) (default : List ℕ) → paletteAnswer g i default ≡ paletteAnswer f i default
   pub lines : (i start room : ℕ) → lineOf g i start room ≡ lineOf f i start room
   pub frames : (i room : ℕ) → frameOf g i room ≡ frameOf f i room
 
@@ -34,7 +35,7 @@ pub record AllRefused (g : List ℕ) (p : ℕ) : Type 0 where
   pub check : checkOf g ≡ Refused 3 p
   pub views : (i : ℕ) → viewOf g i ≡ unseen 3 p
   pub pictures : (i : ℕ) → pictureOf g i ≡ Picture-refused 3 p
-  pub palettes : (i : ℕ) (default : List ℕ) → paletteOf g i default ≡ []
+  pub palettes : (i : ℕ) (default : List ℕ) → paletteAnswer g i default ≡ record { number = 3; place = p; colours = [] }
   pub lines : (i start room : ℕ) → lineOf g i start room ≡ fault 3 p
   pub frames : (i room : ℕ) → frameOf g i room ≡ fault 3 p
 

@@ -17,19 +17,18 @@ use Rattle.ilbm.specs.declared.Picture.{Picture}
 use Rattle.ilbm.specs.declared.PictureAnswer.{PictureAnswer}
 use Rattle.ilbm.specs.declared.PictureAnswer.the-variants.{Shown, Refused}
 use Rattle.ilbm.specs.Contents.{Property, own, shared, absent, Content}
-use Rattle.ilbm.specs.Pictures.{u16, u32, headerIn, hotSpotIn, destinationIn, dataOf, originOf, counts, sizeNot, sizeNotTriples, wrongSize, headerFault, pictureFault, pictureFrom, paletteFrom, Viewed, viewed, unseen, viewOf, pictureOf, pictureAnswer}
+use Rattle.ilbm.specs.Pictures.{u16, u32, headerIn, hotSpotIn, destinationIn, dataOf, originOf, counts, sizeNot, sizeNotTriples, wrongSize, headerFault, pictureFault, pictureFrom, Viewed, viewed, unseen, viewOf, pictureOf, pictureAnswer}
 use Rattle.members.specs.declared.Part.{Part}
 use Rattle.members.specs.declared.Part.the-variants.{Nothing, Between}
 use Rattle.content.specs.declared.Held.{Held}
 use Rattle.content.specs.declared.Contents.{Contents}
 use Rattle.content.specs.Held.{HeldIs, ContentsAre}
-use Rattle.picture.specs.declared.Colours.{Colours}
 use Rattle.view.specs.declared.View.{View}
 use Rattle.view.specs.declared.View.the-variants.{Seen, Unseen}
 use Rattle.view.specs.Seen.{ViewIs}
 use Rattle.view.proofs.Laws.{held-some, held-none}
 use Rattle.view.proofs.ViewLaws.{held-data, data-taken}
-use Rattle.picture.specs.Told.{OfSize, Judged, HeaderTold, GrabTold, DestinationTold, WordTold, LongTold, PictureTold, PartIn, partOr, ColoursAre}
+use Rattle.picture.specs.Told.{OfSize, Judged, HeaderTold, GrabTold, DestinationTold, WordTold, LongTold, PictureTold}
 
 not-false : (b : Bool) → not b ≡ false → b ≡ true
 not-false true e = refl
@@ -205,30 +204,6 @@ picture-told s c b g d w m B G D W M =
           cc;
     }
 
--- the part of a property, or the default
-part-is : (s : List ℕ) (h : Held) (q : Property) (p : Part) (default : List ℕ) → HeldIs s h q → h .part ≡ p → partOr s p default ≡ paletteFrom q default
-part-is s h (own d) Nothing default k i = absurd (rw i at (k .1))
-part-is s h (own d) (Between a b) default k i = data-taken s h (own d) a b k i
-part-is s h (shared q d) Nothing default k i = absurd (rw i at (k .1))
-part-is s h (shared q d) (Between a b) default k i = data-taken s h (shared q d) a b k i
-part-is s h absent Nothing default k i = refl
-part-is s h absent (Between a b) default k i = absurd (let j : Nothing ≡ Between a b = sym (k .1) ∙ i in let z : _≡_ {A = ℕ} 0 1 = cc in omega arith)
-
-part-in : (s : List ℕ) (h : Held) (q : Property) (p : Part) → HeldIs s h q → h .part ≡ p → PartIn s p
-part-in s h q Nothing k i = tt
-part-in s h q (Between a b) k i = let w = held-data s h q a b k i in (omega (arith, w .1), w .2)
-
--- a part that lies inside the file
-module _ (s : List ℕ) (p : Part) (a b : ℕ) (i : p ≡ Between a b) where
-  pub part-order : PartIn s p → a ≤ b
-  part-order x = let y : PartIn s (Between a b) = rw i at x in y .0
-
-  pub part-inside : PartIn s p → b ≤ length s
-  part-inside x = let y : PartIn s (Between a b) = rw i at x in y .1
-
-  pub part-taken : (default : List ℕ) → take (b - a) (drop a s) ≡ partOr s p default
-  part-taken default = rw i
-
 -- from the view to the answers
 module _ (s : List ℕ) (i : ℕ) (v : View) (w : ViewIs s v (viewOf s i)) where
   pub seen-judged : (c : Contents) → v ≡ Seen c → Judged s c
@@ -239,17 +214,3 @@ module _ (s : List ℕ) (i : ℕ) (v : View) (w : ViewIs s v (viewOf s i)) where
 
   pub picture-unseen : (k p : ℕ) → v ≡ Unseen k p → Refused k p ≡ pictureOf s i
   picture-unseen k p j = let x : viewOf s i ≡ unseen k p = rw j at w in rw x
-
-  -- the palette
-  pub colours-seen : (c : Contents) → v ≡ Seen c → ColoursAre s i (record { number = 0; place = 0; part = c .cmap .part })
-  colours-seen c j =
-      let (x, e, k, f) : ViewIs s (Seen c) (viewOf s i) = rw j at w in
-      record {
-        told = λ default. rw (e, part-is s (c .cmap) (x .cmap) (c .cmap .part) default (k .cmap) refl);
-        inside = part-in s (c .cmap) (x .cmap) (c .cmap .part) (k .cmap) refl;
-      }
-
-  pub colours-unseen : (k p : ℕ) → v ≡ Unseen k p → ColoursAre s i (record { number = k; place = p; part = Between 0 0 })
-  colours-unseen k p j =
-      let e : viewOf s i ≡ unseen k p = rw j at w in
-      record { told = λ default. rw e; inside = (omega arith, omega arith) }

@@ -1,5 +1,5 @@
 -- What the properties of a picture that is not refused tell.
-use Prim.Native.Nat.{ℕ, _-_, _≤_}
+use Prim.Native.Nat.{ℕ, _+_, _-_, _≤_}
 use mathlib.Core.Path.{_≡_}
 use mathlib.Core.Bool.{Bool, false}
 use mathlib.Core.List.{List}
@@ -10,7 +10,7 @@ use Rattle.ilbm.specs.declared.BitmapHeader.{BitmapHeader}
 use Rattle.ilbm.specs.declared.Picture.{Picture}
 use Rattle.ilbm.specs.Contents.{Property, Content}
 use Rattle.ilbm.specs.Pictures.{u16, u32, headerIn, hotSpotIn, destinationIn, dataOf, sizeNot, pictureFault, pictureFrom}
-use Rattle.ilbm.specs.Palette.{Answer, paletteAnswer}
+use Rattle.ilbm.specs.Palette.{Answer, paletteAnswer, paletteSource, pointer}
 use Rattle.members.specs.declared.Part.{Part}
 use Rattle.members.specs.declared.Part.the-variants.{Nothing, Between}
 use Rattle.content.specs.declared.Held.{Held}
@@ -54,9 +54,15 @@ abbrev pub partOr : List ℕ → Part → List ℕ → List ℕ
 partOr s Nothing default = default
 partOr s (Between a b) default = take (b - a) (drop a s)
 
+-- where they begin in memory
+abbrev pub partAt : ℕ × ℕ → Part → ℕ × ℕ → ℕ × ℕ
+partAt file Nothing default = default
+partAt file (Between a b) default = (file .0, a + file .1)
+
 -- the answer of the palette call, its colours as a part
 pub record ColoursAre (s : List ℕ) (i : ℕ) (c : Colours) : Type 0 where
   pub told :
       (default : List ℕ) →
       _≡_ {A = Answer} (record { number = c .number; place = c .place; colours = partOr s (c .part) default }) (paletteAnswer s i default)
+  pub lies : (file default : ℕ × ℕ) → partAt file (c .part) default ≡ pointer (paletteSource s i) file default
   pub inside : PartIn s (c .part)

@@ -17,8 +17,8 @@ use view::view_picture;
 ghost use mathlib.Core.Path.{_≡_};
 ghost use Prim.Native.Nat.{ℕ};
 ghost use Rattle.ilbm.specs.Pictures.{pictureOf};
-ghost use Rattle.ilbm.specs.Palette.{paletteAnswer};
-ghost use Rattle.picture.specs.Told.{OfSize, Judged, HeaderTold, GrabTold, DestinationTold, WordTold, LongTold, PictureTold, PartIn, partOr, ColoursAre};
+ghost use Rattle.ilbm.specs.Palette.{paletteAnswer, paletteSource, pointer};
+ghost use Rattle.picture.specs.Told.{OfSize, Judged, HeaderTold, GrabTold, DestinationTold, WordTold, LongTold, PictureTold, PartIn, partOr, partAt, ColoursAre};
 
 // The fields of BMHD, 0 if it is absent.
 pub fn header_of(s: &[u8], h: Held) -> BitmapHeader
@@ -178,7 +178,8 @@ pub fn colours_of(s: &[u8], i: usize) -> Colours
 // That part of the file, or the default.
 pub fn part_or<'a>(s: &'a [u8], c: Colours, default: &'a [u8]) -> &'a [u8]
     requires { ⌜ PartIn (now s) (c .part) ⌝ }
-    ensures { λ r. ⌜ now r ≡ partOr (now (s .entry)) (c .part) (now (default .entry)) ⌝ }
+    ensures { λ r. ⌜ (now r ≡ partOr (now (s .entry)) (c .part) (now (default .entry))) ×
+        (r .ptr ≡ partAt (s .entry .ptr) (c .part) (default .entry .ptr)) ⌝ }
 {
     let part = c.part;
     match part {
@@ -189,7 +190,8 @@ pub fn part_or<'a>(s: &'a [u8], c: Colours, default: &'a [u8]) -> &'a [u8]
 
 // The palette of picture i: the CMAP that counts, as a part of the file, or the default where none counts; empty after a refusal.
 pub fn palette<'a>(s: &'a [u8], i: usize, default: &'a [u8]) -> PaletteAnswer<'a>
-    ensures { λ r. ⌜ record { number = r .number; place = r .place; colours = now (r .colours) } ≡ paletteAnswer (now (s .entry)) i (now (default .entry)) ⌝ }
+    ensures { λ r. ⌜ (record { number = r .number; place = r .place; colours = now (r .colours) } ≡ paletteAnswer (now (s .entry)) i (now (default .entry))) ×
+        (r .colours .ptr ≡ pointer (paletteSource (now (s .entry)) i) (s .entry .ptr) (default .entry .ptr)) ⌝ }
 {
     let c = colours_of(s, i);
     let colours = part_or(s, c, default);

@@ -1,6 +1,6 @@
--- Each way through the code takes the same branch of the definition, by laws of Laws.antt.
+-- Each way through the code takes the same branch of the definition, by laws of PaletteLaws.antt.
 use borrow.Author.Needs.{needs}
-use Rattle.picture.proofs.Laws.{colours-seen, colours-unseen}
+use Rattle.picture.proofs.PaletteLaws.{colours-seen, colours-unseen}
 use Rattle.picture.proofs.colours_of.Statement.{statement}
 use Rattle.picture.proofs.colours_of.Tie as tie
 use Rattle.picture.proofs.colours_of.Reads as reads

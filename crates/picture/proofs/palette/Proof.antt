@@ -40,7 +40,7 @@ use denote.Triple.Walked.{says, Stays, stay-none, stay-none-slice, walkOf, goes-
 use denote.Exit.{yes}
 use denote.Triple.Clauses.{ensured, lasts}
 use Rattle.ilbm.specs.Palette.{Answer}
-use Rattle.picture.specs.Told.{PartIn, partOr, ColoursAre}
+use Rattle.picture.specs.Told.{PartIn, partOr, partAt, ColoursAre}
 use Rattle.picture.specs.declared.Colours.{Colours}
 use Rattle.picture.specs.declared.PaletteAnswer.{PaletteAnswer}
 use Rattle.picture.proofs.PaletteAnswer as T
@@ -146,8 +146,12 @@ module _ {M : Type 1} (𝓤 : URA M) (H : Heap 𝓤) (A : Atoms 𝓤) (W : Given
         nothing ! $ move ! (2 ∷ 0 ∷ []) $ fjoin ! $ move ! (3 ∷ 0 ∷ []) $ fjoin ! $ move ! (2 ∷ 0 ∷ []) $ fjoin ! $
         move ! (2 ∷ 0 ∷ []) $ use2 W (raw (PartOr 𝓤 H A mem run .pre to-part)) (asked-part inside) $ frame ! $ done !
 
-    part-said : (r : RefT (List ℕ)) → ent 𝓤 (ensured 𝓤 H A part-or.ended (part-or.clauses 𝓤 H A mem run) (κ, tt) (s, (c, (d, tt))) tt r) (fact 𝓤 (now r ≡ partOr (now s) (c .part) (now d)))
-    part-said r = exE 𝓤 _ (λ ws. snd∗ 𝓤 (sem 𝓤 H A (lasts part-or.ended (κ, tt) (s, (c, (d, tt))) ws)) (fact 𝓤 (now r ≡ partOr (now s) (c .part) (now d))))
+    -- what it hands back
+    abbrev Handed : RefT (List ℕ) → Type 0
+    Handed r = (now r ≡ partOr (now s) (c .part) (now d)) × (r .ptr ≡ partAt (s .ptr) (c .part) (d .ptr))
+
+    part-said : (r : RefT (List ℕ)) → ent 𝓤 (ensured 𝓤 H A part-or.ended (part-or.clauses 𝓤 H A mem run) (κ, tt) (s, (c, (d, tt))) tt r) (fact 𝓤 (Handed r))
+    part-said r = exE 𝓤 _ (λ ws. snd∗ 𝓤 (sem 𝓤 H A (lasts part-or.ended (κ, tt) (s, (c, (d, tt))) ws)) (fact 𝓤 (Handed r)))
 
     abbrev made : RefT (List ℕ) → PaletteAnswer
     made r = record { number = c .number; place = c .place; colours = r }
@@ -156,12 +160,12 @@ module _ {M : Type 1} (𝓤 : URA M) (H : Heap 𝓤) (A : Atoms 𝓤) (W : Given
     told bytes = record { number = c .number; place = c .place; colours = bytes }
 
     exits :
-        (r : RefT (List ℕ)) → ColoursAre (now s) i c → now r ≡ partOr (now s) (c .part) (now d) → c .number < 2 ^ 64 → c .place < 2 ^ 64 →
+        (r : RefT (List ℕ)) → ColoursAre (now s) i c → Handed r → c .number < 2 ^ 64 → c .place < 2 ^ 64 →
         ent 𝓤 (⋆ 𝓤 H A (‵ (Own r) ∷ (‵ (flft κ q) ⊛ ‵ ftrue) ∷ ‵ All ∷ [])) (Post (T′.lowered (made r)))
     exits r e f n-fits p-fits =
         qed W (‵ (Own r) ∷ (‵ (flft κ q) ⊛ ‵ ftrue) ∷ ‵ All ∷ []) ∵
         suffices ! _ (ends-at 𝓤 H A palette.ended stayed (palette.clauses 𝓤 H A mem run) W (((κ, tt), (q, tt), tt, args, vals), tt) (T′.lowered (made r)) (made r) (tt, (tt, (tt, tt))) (tt, (tt, (tt, tt)))) $
-        says ! (ap told f ∙ e .told (now d)) $ move ! (1 ∷ []) $ frame ! $ move ! (1 ∷ []) $ frame ! $
+        says ! (ap told (f .0) ∙ e .told (now d), f .1 ∙ e .lies (s .ptr) (d .ptr)) $ move ! (1 ∷ []) $ frame ! $ move ! (1 ∷ []) $ frame ! $
         nothing ! $ move ! (1 ∷ 0 ∷ []) $ fjoin ! $ owned ! usize (Is usize) (uint-makes 𝓤 H A W w64) (c .place) _ (refl, p-fits) $ fjoin ! $
         owned ! usize (Is usize) (uint-makes 𝓤 H A W w64) (c .number) _ (refl, n-fits) $ fjoin ! $
         by ! (own-shut 𝓤 H A W (T.the-type α) (T′.the-laws α) (c .number, (c .place, (r, tt))))
@@ -186,7 +190,7 @@ module _ {M : Type 1} (𝓤 : URA M) (H : Heap 𝓤) (A : Atoms 𝓤) (W : Given
         use3 W (raw (PartOr 𝓤 H A mem run .pre (to-part c)) ⊛ ‵ All) (goes-part c (e .inside)) $ split ! $
         calls-at ! fm (PartOr 𝓤 H A mem run) known-part (to-part c) (and-then ! (load ! (from ! (stop !)) (look ! 10 refl)) (and-then ! (load ! (from ! (stop !)) (look ! 4 refl)) (and-then ! (load ! (from ! (stop !)) (look ! 6 refl)) (no-more !)))) (λ x.
         use1 W (later (some (λ (r : RefT (List ℕ)). ((‵ (flft κ q) ⊛ ‵ ftrue) ⊛ ‵ (Bytes .own r (x ∷ []))) ⊛ raw (ensured 𝓤 H A part-or.ended (part-or.clauses 𝓤 H A mem run) (κ, tt) (s, (c, (d, tt))) tt r)))) (id⊢ 𝓤 _) $ await ! tt $ pick ! (λ r.
-        split ! $ move ! (1 ∷ []) $ use1 W (raw (fact 𝓤 (now r ≡ partOr (now s) (c .part) (now d)))) (part-said c r) $ heard ! (now r ≡ partOr (now s) (c .part) (now d)) (λ f. split ! $ move ! (1 ∷ []) $
+        split ! $ move ! (1 ∷ []) $ use1 W (raw (fact 𝓤 (Handed c r))) (part-said c r) $ heard ! (Handed c r) (λ f. split ! $ move ! (1 ∷ []) $
         -- [the part; the token; all; room for _5; …; _4; …]
         peeks ! Bytes (Is Bytes) (shows 𝓤 H A Bytes) r (x ∷ []) (λ js.
         land ! (from ! (stop !)) (init ! 3 refl (shr-slice-lawful 𝓤 H A W erased κ u8 .typed r _ js .0)) $

@@ -1,6 +1,6 @@
 -- Each way through the code takes the same branch of the definition; the part lies inside by the requirement.
 use borrow.Author.Needs.{needs}
-use Rattle.picture.proofs.Laws.{part-order, part-inside, part-taken}
+use Rattle.picture.proofs.PaletteLaws.{part-order, part-inside, part-taken, part-placed}
 use Rattle.picture.proofs.part_or.Statement.{statement}
 use Rattle.picture.proofs.part_or.Tie as tie
 use Rattle.picture.proofs.part_or.Reads as reads
@@ -25,7 +25,7 @@ returns : tie.Need-returns
 returns c = search needs
 
 returns-2 : tie.Need-returns-2
-returns-2 c = search (part-taken, needs)
+returns-2 c = search (part-taken, part-placed, needs)
 
 pub part-or-spec : {M : Type 1} → statement M
 part-or-spec =
