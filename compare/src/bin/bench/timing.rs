@@ -1,4 +1,4 @@
-//! Medians of runs in turns, and the lines that show them.
+//! Runs in turns, and the lines that show their medians.
 
 use std::hint::black_box;
 use std::time::Instant;
@@ -32,18 +32,26 @@ fn median(mut times: Vec<f64>) -> f64 {
     times[times.len() / 2]
 }
 
-/// The median microseconds of one run of each program, timed in turns.
-fn medians<const COUNT: usize>(mut programs: [Timed; COUNT]) -> [f64; COUNT] {
+/// What is told of the programs of a line.
+struct Told<const COUNT: usize> {
+    /// The median microseconds of one run of each.
+    micros: [f64; COUNT],
+    /// The median ratio of the first to each, of runs that follow each other:
+    /// the machine's speed changes, and less so within a turn.
+    ratios: [f64; COUNT],
+}
+
+/// Times the programs in turns.
+fn in_turns<const COUNT: usize>(mut programs: [Timed; COUNT]) -> Told<COUNT> {
     let once = programs.iter_mut().map(|program| program(1)).fold(f64::MAX, f64::min);
     let times = (SHORTEST / once).clamp(1.0, 1e6) as u32;
     let turns = (TOGETHER / (once * f64::from(times))).clamp(TURNS.0, TURNS.1) as u32;
-    let mut told = [(); COUNT].map(|()| Vec::new());
-    for _ in 0..turns {
-        for (program, told) in programs.iter_mut().zip(&mut told) {
-            told.push(program(times) / f64::from(times) * 1e6);
-        }
-    }
-    told.map(median)
+    let mut turn = || programs.each_mut().map(|program| program(times) / f64::from(times) * 1e6);
+    let told: Vec<[f64; COUNT]> = (0..turns).map(|_| turn()).collect();
+    let column = |value: &dyn Fn(&[f64; COUNT], usize) -> f64| {
+        std::array::from_fn(|n| median(told.iter().map(|turn| value(turn, n)).collect()))
+    };
+    Told { micros: column(&|turn, n| turn[n]), ratios: column(&|turn, n| turn[0] / turn[n]) }
 }
 
 /// The heading of lines of the library beside others.
@@ -55,8 +63,9 @@ pub fn heading(what: &str, others: [&str; 2]) {
 
 /// A line: microseconds of the library and two others, and the ratios to them.
 pub fn beside(what: &str, programs: [Timed; 3]) {
-    let [ours, a, b] = medians(programs);
-    println!("{what:48} {ours:11.1} {a:11.1} {b:11.1} {:10.2} {:10.2}", ours / a, ours / b);
+    let told = in_turns(programs);
+    let ([ours, a, b], [_, of_a, of_b]) = (told.micros, told.ratios);
+    println!("{what:48} {ours:11.1} {a:11.1} {b:11.1} {of_a:10.2} {of_b:10.2}");
 }
 
 /// The heading of lines of one call on some input and on twice of it.
@@ -66,7 +75,8 @@ pub fn growth_heading() {
 
 /// A line: microseconds on the whole input and on half of it; their ratio.
 pub fn grown(what: &str, whole: Timed, half: Timed) -> f64 {
-    let [whole, half] = medians([whole, half]);
-    println!("{what:48} {whole:11.1} {half:11.1} {:10.2}", whole / half);
-    whole / half
+    let told = in_turns([whole, half]);
+    let ([whole, half], [_, ratio]) = (told.micros, told.ratios);
+    println!("{what:48} {whole:11.1} {half:11.1} {ratio:10.2}");
+    ratio
 }
