@@ -5,18 +5,20 @@ use crate::timing::{beside, grown, heading, timed, Timed};
 use second::plain_rows::plain_pack;
 use std::hint::black_box;
 
-/// Packs each row to where the one before it ended, in a cleared buffer.
+/// Packs each row to where the one before it ended, in a cleared buffer. The
+/// length of a row is not known when the packer is compiled.
 fn rows<'a>(picture: &'a Drawn, pack: impl Fn(&[u8], &mut [u8]) -> usize + 'a) -> Timed<'a> {
     let mut out = vec![0; 2 * picture.rows.len()];
     let mut run = move || {
         out.fill(0);
         let mut length = 0;
-        for row in black_box(&picture.rows).chunks_exact(ROW) {
+        for row in black_box(&picture.rows).chunks_exact(black_box(ROW)) {
             length += pack(row, &mut out[length..]);
         }
-        black_box(&out[..length]) == picture.body().1
+        black_box(&out);
+        length
     };
-    assert!(run());
+    assert_eq!(run(), picture.body().1.len());
     timed(run)
 }
 
