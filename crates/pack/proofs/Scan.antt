@@ -109,7 +109,7 @@ module _ (row : List ℕ) (i k : ℕ) where
   one-more : drop 1 (drop (i + k) row) ≡ drop (i + (k + 1)) row
   one-more = let e : i + k + 1 ≡ i + (k + 1) = omega arith in drop-drop 1 (i + k) row ∙ ap (λ (n : ℕ). drop n row) e
 
-  pub same-starts : (b : ℕ) → 0 + sameFor (128 - 0) b (drop (i + 0) row) ≡ sameFor 128 b (drop i row)
+  same-starts : (b : ℕ) → 0 + sameFor (128 - 0) b (drop (i + 0) row) ≡ sameFor 128 b (drop i row)
   same-starts b = let e : 0 + sameFor 128 b (drop i row) ≡ sameFor 128 b (drop i row) = omega arith in rw (add-zero i) e
 
   pub plain-starts : 0 + plainFor (128 - 0) (drop (i + 0) row) ≡ plainFor 128 (drop i row)
@@ -195,6 +195,40 @@ same-four row i k b v u t f end g l e =
     let u3 = same-step row i (k + 2) (k + 3) b v (omega arith) u2 (omega arith) (omega arith) (rw e2 (y .2)) in
     same-step row i (k + 3) (k + 4) b v (omega arith) u3 (omega arith) (omega arith) (rw e3 (y .3))
 
+-- where three equal bytes start, three are passed
+
+equal-two : (a b : ℕ) (t : Bool) → pick (eqb a b) t false ≡ true → (a ≡ b) × (t ≡ true)
+equal-two a b t e = go (eqb a b) refl e
+  where
+    go : (u : Bool) → eqb a b ≡ u → pick u t false ≡ true → (a ≡ b) × (t ≡ true)
+    go true i f = (eqb-true a b i, f)
+    go false i f = let z : _≡_ {A = ℕ} 0 1 = cc in absurd (omega arith)
+
+three-long : (xs : List ℕ) → three xs ≡ true → 3 ≤ length xs
+unfolding three
+three-long [] e = let z : _≡_ {A = ℕ} 0 1 = cc in absurd (omega arith)
+three-long (a ∷ []) e = let z : _≡_ {A = ℕ} 0 1 = cc in absurd (omega arith)
+three-long (a ∷ b ∷ []) e = let z : _≡_ {A = ℕ} 0 1 = cc in absurd (omega arith)
+three-long (a ∷ b ∷ c ∷ xs) e = omega arith
+
+module _ (row : List ℕ) (i b : ℕ) (h : i ≤ length row) (e : three (drop i row) ≡ true) (f : b ≡ getD row i 0) where
+  pub three-inside : i + 3 ≤ length row
+  three-inside = let l : 3 ≤ length row - i = rw length-drop at (three-long (drop i row) e) in omega arith
+
+  pub same-three : 3 + sameFor (128 - 3) b (drop (i + 3) row) ≡ sameFor 128 b (drop i row)
+  same-three =
+      let l = three-inside in
+      let y = equal-two (getD row i 0) (getD row (i + 1) 0) (eqb (getD row (i + 1) 0) (getD row (i + 2) 0)) (sym (seen row i l) ∙ e) in
+      let y2 : getD row (i + 1) 0 ≡ getD row (i + 2) 0 = eqb-true (getD row (i + 1) 0) (getD row (i + 2) 0) (y .1) in
+      let y1 : getD row i 0 ≡ getD row (i + 1) 0 = y .0 in
+      let z : getD row (i + 0) 0 ≡ b = rw (add-zero i) (sym f) in
+      let u1 = same-step row i 0 1 b _ refl (same-starts row i 0 b) (omega arith) (omega arith) z in
+      let u2 = same-step row i 1 2 b _ refl u1 (omega arith) (omega arith) (sym y1 ∙ sym f) in
+      same-step row i 2 3 b _ refl u2 (omega arith) (omega arith) (sym y2 ∙ (sym y1 ∙ sym f))
+
+pub three-known : (t : Bool) (xs : List ℕ) → t ≡ three xs → t ≡ true → three xs ≡ true
+three-known t xs e i = sym e ∙ i
+
 module _ (row : List ℕ) (i k v : ℕ) (u : k + plainFor (128 - k) (drop (i + k) row) ≡ v) (last : ℕ) (w : (last ≤ 128) × (last ≤ length row - i - 2) × (last < 128 → length row - i - 2 ≤ last)) where
   -- where the second byte and the third differ, neither the first nor the second starts three
   pub plain-apart :
@@ -232,7 +266,7 @@ module _ (row : List ℕ) (i k v : ℕ) (u : k + plainFor (128 - k) (drop (i + k
   plain-end-one r q t is h d e =
       plain-end row i (k + 1) v (plain-more row i k v u last w t is h e) last w r q d (omega arith) (omega arith)
 
-pub ruleset lengths = (same-starts, same-out, same-full, same-stop, same-more, same-four, plain-starts, plain-end, plain-end-one, plain-stop, plain-found, plain-next, plain-apart)
+pub ruleset lengths = (three-inside, same-three, same-out, same-full, same-stop, same-more, same-four, plain-starts, plain-end, plain-end-one, plain-stop, plain-found, plain-next, plain-apart)
 
 -- ---- the piece
 
@@ -245,4 +279,4 @@ module _ (row : List ℕ) (i k : ℕ) (t : Bool) (is : t ≡ three (drop i row))
   unfolding pieceOf
   piece-literal e n = rw n (simp (← is, e))
 
-pub ruleset pieces = (piece-repeat, piece-literal)
+pub ruleset pieces = (three-known, piece-repeat, piece-literal)

@@ -68,13 +68,13 @@ fn most(left: usize) -> usize
     128
 }
 
-// So many bytes b stand at i, by fours.
+// So many bytes b stand at i, the first three of which are known, by fours.
 fn fours_at(row: &[u8], i: usize, b: u8) -> usize
-    requires { ⌜ i ≤ length (now row) ⌝ }
+    requires { ⌜ (i ≤ length (now row)) × (three (drop i (now row)) ≡ true) × (b ≡ getD (now row) i 0) ⌝ }
     ensures { λ r. ⌜ (r ≤ 128) × (i + r ≤ length (now (row .entry))) × (r + sameFor (128 - r) b (drop (i + r) (now (row .entry))) ≡ sameFor 128 b (drop i (now (row .entry)))) ⌝ }
 {
     let end = most(row.len() - i);
-    let mut k = 0;
+    let mut k = 3;
     while k + 4 <= end {
         if four_here(row, i + k, b) {
             k += 4;
@@ -85,9 +85,9 @@ fn fours_at(row: &[u8], i: usize, b: u8) -> usize
     k
 }
 
-// How many bytes b stand at i, at most 128.
+// How many bytes b stand at i, where three do, at most 128.
 fn same_at(row: &[u8], i: usize, b: u8) -> usize
-    requires { ⌜ i ≤ length (now row) ⌝ }
+    requires { ⌜ (i ≤ length (now row)) × (three (drop i (now row)) ≡ true) × (b ≡ getD (now row) i 0) ⌝ }
     ensures { λ r. ⌜ r ≡ sameFor 128 b (drop i (now (row .entry))) ⌝ }
 {
     let mut k = fours_at(row, i, b);

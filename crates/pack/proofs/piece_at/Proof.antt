@@ -1,5 +1,5 @@
 -- `piece_at` meets its contract: each way out is one law.
-use Rattle.pack.proofs.Scan.{pieces}
+use Rattle.pack.proofs.Scan.{three-known, pieces}
 use borrow.Author.Needs.{needs}
 use Rattle.pack.proofs.piece_at.Statement.{statement}
 use Rattle.pack.proofs.piece_at.Tie as tie
@@ -11,7 +11,7 @@ shared-slice-read-same-at : tie.Need-shared-slice-read-same-at
 shared-slice-read-same-at c = search needs
 
 same-at-requires : tie.Need-same-at-requires
-same-at-requires c κs = search needs
+same-at-requires c κs = search (three-known, needs)
 
 returns : tie.Need-returns
 returns c = search (pieces, needs)
