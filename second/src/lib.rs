@@ -23,6 +23,7 @@ mod pack;
 mod picture;
 pub mod plain;
 pub mod plain_rows;
+pub mod plain_write;
 pub mod random;
 mod rows;
 mod tree;

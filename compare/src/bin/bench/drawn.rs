@@ -41,7 +41,7 @@ fn body(file: &[u8]) -> (Header, &[u8]) {
     (told.header, &file[told.body.expect("a BODY")])
 }
 
-fn fields(height: usize, compression: u8) -> Fields {
+pub fn fields(height: usize, compression: u8) -> Fields {
     Fields {
         width: WIDTH as u16,
         height: height as u16,

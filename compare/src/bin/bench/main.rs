@@ -9,6 +9,7 @@ mod outside;
 mod packing;
 mod structure;
 mod timing;
+mod writing;
 
 use std::process::ExitCode;
 
@@ -20,12 +21,13 @@ fn main() -> ExitCode {
     structure::against_others();
     frames::against_others();
     packing::against_others();
+    writing::against_others();
     match outside {
         Some(program) => frames::against_libavcodec(&program),
         None => println!("\nlibavcodec: not linked, left out"),
     }
     timing::growth_heading();
-    let greatest = frames::growth().max(packing::growth()).max(structure::growth());
+    let greatest = frames::growth().max(packing::growth()).max(writing::growth()).max(structure::growth());
     if greatest > GREATEST_GROWTH {
         println!("twice the input takes more than {GREATEST_GROWTH} times as long");
         return ExitCode::FAILURE;
