@@ -6,7 +6,7 @@ use mathlib.Core.List.{List, [], _∷_, _++_}
 use lib.Bits.{bitAnd}
 use lib.Dec.{ltb, eqb}
 use lib.ListN.{length, getD, take, drop, set}
-use lib.Seq.{paste, sets-eq, take-paste}
+use lib.Seq.{paste, take-paste}
 use mir.Syntax.{w64}
 use mir.Val.{Fits}
 use borrow.Author.Tests.{ltb-true, ltb-false, eqb-true}
@@ -120,21 +120,6 @@ module _ (buffer : List ℕ) (n planes byte : ℕ) (h : planes ≤ 8) where
 pub ruleset eighting = (eighted-start, eighted-more, eighted-end, eighted-fits, eighted-double)
 
 -- ---- the row
-
--- eight stores are one paste
-pub pasted-eight :
-    (row : List ℕ) (x a b c d e f g h : ℕ) → x + 8 ≤ length row →
-    set (set (set (set (set (set (set (set row x a) (x + 1) b) (x + 2) c) (x + 3) d) (x + 4) e) (x + 5) f) (x + 6) g) (x + 7) h
-    ≡ paste row x (a ∷ b ∷ c ∷ d ∷ e ∷ f ∷ g ∷ h ∷ []) 8
-pasted-eight row x a b c d e f g h l =
-    let x1 : x + 1 ≡ suc x = omega arith in
-    let x2 : x + 2 ≡ suc (suc x) = omega arith in
-    let x3 : x + 3 ≡ suc (suc (suc x)) = omega arith in
-    let x4 : x + 4 ≡ suc (suc (suc (suc x))) = omega arith in
-    let x5 : x + 5 ≡ suc (suc (suc (suc (suc x)))) = omega arith in
-    let x6 : x + 6 ≡ suc (suc (suc (suc (suc (suc x))))) = omega arith in
-    let x7 : x + 7 ≡ suc (suc (suc (suc (suc (suc (suc x)))))) = omega arith in
-    rw (x1, x2, x3, x4, x5, x6, x7) (sets-eq (a ∷ b ∷ c ∷ d ∷ e ∷ f ∷ g ∷ h ∷ []) row x l)
 
 -- the bytes of eight pixels are the pixels
 bytes-eight : (f : ℕ → ℕ) → ((i : ℕ) → f i ≤ 255) → bytesOf (eight f) ≡ f 0 ∷ f 1 ∷ f 2 ∷ f 3 ∷ f 4 ∷ f 5 ∷ f 6 ∷ f 7 ∷ []

@@ -1,62 +1,38 @@
--- `copy_run` meets its contract. The loop's invariant: the first k bytes are copied, and dst is as long as it was; the measure is what is left of count.
-use Prim.Native.Nat.{_-_, _≤_}
-use mathlib.Core.Path.{_≡_}
-use lib.ListN.{length, drop}
-use lib.Seq.{paste}
+-- By eights, and the rest one by one: a paste behind a paste.
+use Rattle.byterun.proofs.Runs.{rest-copied}
 use borrow.Author.Needs.{needs}
-use Rattle.byterun.proofs.Runs.{laws}
 use Rattle.byterun.proofs.copy_run.Statement.{statement}
 use Rattle.byterun.proofs.copy_run.Tie as tie
 
-abbrev Inv-loop : tie.InvT-loop
-Inv-loop src from dst₀ at count k₀ dst k = (k ≤ count) × (length dst ≡ length dst₀) × (dst ≡ paste dst₀ at (drop from src) k)
+copy-eights-requires : tie.Need-copy-eights-requires
+copy-eights-requires c κs = search needs
 
-abbrev μ-loop : tie.MeasureT-loop
-μ-loop src from dst₀ at count k₀ dst k = count - k
+add-copy-ones : tie.Need-add-copy-ones
+add-copy-ones c = search needs
 
-loop-holds : tie.Need-loop-holds Inv-loop μ-loop
-loop-holds c = search (laws, needs)
+add-copy-ones-2 : tie.Need-add-copy-ones-2
+add-copy-ones-2 c = search needs
 
-add-dst : tie.Need-add-dst Inv-loop μ-loop
-add-dst c = search (laws, needs)
+sub-copy-ones : tie.Need-sub-copy-ones
+sub-copy-ones c = search needs
 
-shared-slice-read-dst : tie.Need-shared-slice-read-dst Inv-loop μ-loop
-shared-slice-read-dst c = search (laws, needs)
+copy-ones-requires : tie.Need-copy-ones-requires
+copy-ones-requires c κs = search needs
 
-add-dst-2 : tie.Need-add-dst-2 Inv-loop μ-loop
-add-dst-2 c = search (laws, needs)
+same-length : tie.Need-same-length
+same-length c = search needs
 
-slice-write-dst : tie.Need-slice-write-dst Inv-loop μ-loop
-slice-write-dst c = search (laws, needs)
-
-add-k : tie.Need-add-k Inv-loop μ-loop
-add-k c = search (laws, needs)
-
-loop-less : tie.Need-loop-less Inv-loop μ-loop
-loop-less c = search (laws, needs)
-
-loop-again : tie.Need-loop-again Inv-loop μ-loop
-loop-again c = search (laws, needs)
-
-same-length : tie.Need-same-length Inv-loop μ-loop
-same-length c = search (laws, needs)
-
-returns : tie.Need-returns Inv-loop μ-loop
-returns c = search (laws, needs)
+returns : tie.Need-returns
+returns c = search (rest-copied, needs)
 
 pub copy-run-spec : {M : Type 1} → statement M
 copy-run-spec =
     tie.close
     (tie.spec
-    Inv-loop
-    μ-loop
-    loop-holds
-    add-dst
-    shared-slice-read-dst
-    add-dst-2
-    slice-write-dst
-    add-k
-    loop-less
-    loop-again
+    copy-eights-requires
+    add-copy-ones
+    add-copy-ones-2
+    sub-copy-ones
+    copy-ones-requires
     same-length
     returns)
