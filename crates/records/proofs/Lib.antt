@@ -1,0 +1,4 @@
+pub mod RowLaws
+pub mod Locals
+pub mod Callees
+pub mod Turns
