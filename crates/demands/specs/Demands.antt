@@ -1,5 +1,5 @@
 -- The three demands on the library, as theorems over the definitions that the contracts of the public calls cite.
-use Prim.Native.Nat.{ℕ, _≤_}
+use Prim.Native.Nat.{ℕ, _<_, _≤_}
 use mathlib.Core.Path.{_≡_}
 use mathlib.Core.List.{List}
 use mathlib.Core.Logic.{_↔_}
@@ -10,6 +10,15 @@ use Rattle.tree.specs.declared.Verdict.the-variants.{Accepted, Refused}
 use Rattle.grammar.specs.Words.{Bytes}
 use Rattle.grammar.specs.Grammar.{ChunkFile}
 use Rattle.grammar.specs.Accept as Accept
+use Rattle.listing.specs.declared.Record.{Record}
+use Rattle.listing.specs.declared.Listed.the-variants.{Refused as Listed-refused}
+use Rattle.listing.specs.Records.{recordOf}
+use Rattle.listing.specs.Cursors.{countOf}
+use Rattle.table.specs.Table.{answerOf}
+use Rattle.reader.specs.declared.Step.the-variants.{End}
+use Rattle.reader.specs.Reading.{stepAt}
+use Rattle.reader.specs.Agree.{placeOf}
+use Rattle.reader.specs.Agree as Reader
 use Rattle.byterun.specs.Packing.{Packs}
 use Rattle.pack.specs.Pack.{packed}
 use Rattle.pack.specs.Laws as Packing
@@ -22,6 +31,7 @@ use Rattle.additions.specs.Statement as Statement
 use Rattle.additions.specs.Demand3 as Additions
 use Rattle.demands.specs.Numbers.{Structural}
 use Rattle.demands.specs.Numbers as Numbers
+use Rattle.demands.specs.Listings as Listings
 
 -- Demand 1. Any bytes may be handed to the check, and a refusal has one of the numbers 1 to 12. That every call ends, stays inside
 -- what it was lent and answers by these definitions is what its proved contract says.
@@ -39,6 +49,17 @@ accepted-iff-tree = Accept.accepted-iff
 -- One file has one tree.
 pub one-tree : (s : List ℕ) (c d : Chunk) (R S : List ℕ) → ChunkFile s c R → ChunkFile s d S → (c ≡ d) × (R ≡ S)
 one-tree = Accept.unique
+
+-- The listing is given three ways that agree: place i of the table, the i-th answer of the reader and the record asked for by the
+-- number i are the same; from the count on it is 14 and the end.
+pub listings-agree :
+    (s : List ℕ) → Bytes s → (old : List Record) (n e t : ℕ) → answerOf (length old) (checkOf s) ≡ Accepted n e t → (i : ℕ) (unused : Record) → i < n →
+    Listings.SameRecord s old i unused
+listings-agree = Listings.same-record
+
+pub listings-end :
+    (s : List ℕ) → Bytes s → (n e t i : ℕ) → Accepted n e t ≡ checkOf s → countOf s ≤ i → (recordOf s i ≡ Listed-refused 14 0) × (stepAt s (placeOf s i) ≡ End)
+listings-end = Reader.ends-behind
 
 -- A packed row unpacks to the row, from any place of any BODY, and grows by at most one byte per started 128.
 pub packed-unpacks : (row : List ℕ) → Packs (packed row) row

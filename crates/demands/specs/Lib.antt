@@ -1,3 +1,4 @@
 pub mod Numbers
 pub mod Examples
+pub mod Listings
 pub mod Demands
