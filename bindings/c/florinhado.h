@@ -62,6 +62,8 @@ size_t iff_check(const uint8_t *file, size_t file_length, size_t *place,
 /*
  * Tells one chunk of the file; chunks have the numbers from 0 in file order.
  * Refusals: 1 to 12, then 14 if there is no chunk with this number (place 0).
+ * The file is checked and gone through up to the chunk, so a call takes time in
+ * proportion to the file.
  *
  *   file, file_length  the file
  *   number             the chunk's number

@@ -10,6 +10,7 @@ mod census;
 mod dump;
 pub mod fixed;
 pub mod large;
+pub mod listings;
 mod later;
 mod property;
 mod subject;

@@ -1,6 +1,6 @@
-//! `big [PROPS]`: the largest and deepest files through every call, and the
-//! largest pictures written, on the main thread. `run_big.sh` runs it with a
-//! small stack.
+//! `big [PROPS]`: the largest and deepest files through every call, the widest
+//! pictures read, and the largest written, on a thread with the stack that a
+//! call may take. `run_big.sh` runs it with a small stack for the rest.
 
 use compare::large::{accepted, filled_up, forms, group, leaves, nested, props, GROUPS, LEAVES, LEVELS};
 use compare::write::written;
@@ -13,6 +13,9 @@ use std::time::Instant;
 
 /// PROPs in the LIST, unless the command line says otherwise.
 const PROPS: usize = 5_000;
+
+/// The stack that any call may take.
+const STACK: usize = 128 * 1024;
 
 struct Case {
     name: &'static str,
@@ -82,6 +85,14 @@ fn too_long() -> Case {
     Case { name: "one byte too many", file, known: refused(1, 0) }
 }
 
+/// A picture of the greatest width, as the second writer writes it.
+fn widest_picture(compression: u8) -> Case {
+    let WriterInput { fields, palette, frame, room } = widest(200, compression, true);
+    let file = second::write_picture(&fields, &palette, &frame, room).expect("a picture that can be written");
+    let known = Ok(accepted(4, file.len()));
+    Case { name: "picture of 65,535 by 200, 8 planes", file: filled_up(file), known }
+}
+
 fn run(case: &Case) -> Result<(), String> {
     let mut random = Random::new(case.file.len() as u64);
     let told = second::check(&case.file);
@@ -130,9 +141,8 @@ fn write_pictures() -> Result<(), String> {
     Ok(())
 }
 
-fn main() -> ExitCode {
-    let count = std::env::args().nth(1).map_or(PROPS, |word| word.parse().expect("a number"));
-    let cases: [&dyn Fn() -> Case; 8] = [
+fn run_all(count: usize) -> ExitCode {
+    let cases: [&dyn Fn() -> Case; 10] = [
         &full_form,
         &full_cat,
         &|| list_of_props(count),
@@ -141,6 +151,8 @@ fn main() -> ExitCode {
         &deep_members,
         &too_deep,
         &too_long,
+        &|| widest_picture(0),
+        &|| widest_picture(1),
     ];
     for case in cases {
         let case = case();
@@ -157,4 +169,10 @@ fn main() -> ExitCode {
         return ExitCode::FAILURE;
     }
     ExitCode::SUCCESS
+}
+
+fn main() -> ExitCode {
+    let count = std::env::args().nth(1).map_or(PROPS, |word| word.parse().expect("a number"));
+    let thread = std::thread::Builder::new().stack_size(STACK).spawn(move || run_all(count));
+    thread.expect("a thread").join().expect("an answer")
 }

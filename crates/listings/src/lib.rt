@@ -1,4 +1,4 @@
-// Reading a file to its end and filling a table, for the program that measures them (compare/listing).
+// Reading a file to its end and filling a table, for the program that measures them (compare/run_listing.sh).
 use tree::Verdict;
 ghost use mathlib.Core.Path.{_≡_};
 ghost use Rattle.tree.specs.Judge.{checkOf};

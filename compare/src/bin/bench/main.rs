@@ -5,6 +5,7 @@
 
 mod drawn;
 mod frames;
+mod listing;
 mod outside;
 mod packing;
 mod structure;
@@ -19,6 +20,7 @@ const GREATEST_GROWTH: f64 = 2.3;
 fn main() -> ExitCode {
     let outside = std::env::args().nth(1);
     structure::against_others();
+    listing::against_others();
     frames::against_others();
     packing::against_others();
     writing::against_others();

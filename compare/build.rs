@@ -1,0 +1,16 @@
+//! Links the archive that `rt staticlib listings` writes.
+
+use std::path::Path;
+
+fn main() {
+    let folder = Path::new(env!("CARGO_MANIFEST_DIR")).join("../target/staticlib");
+    let archive = folder.join("liblistings.a");
+    println!("cargo:rerun-if-changed=build.rs");
+    println!("cargo:rerun-if-changed={}", archive.display());
+    if !archive.is_file() {
+        eprintln!("target/staticlib/liblistings.a is missing: run ./test (or rt staticlib listings) first");
+        std::process::exit(1);
+    }
+    println!("cargo:rustc-link-search=native={}", folder.display());
+    println!("cargo:rustc-link-lib=static=listings");
+}
