@@ -10,7 +10,7 @@ use lib.ListN.{length, getD, set, length-set, replicate, length-replicate}
 use lib.Seq.{getD-set-same, getD-set-other}
 use borrow.Author.Tests.{lt-ltb, le-ltb, eq-eqb, ne-eqb, eqb-true, eqb-false, leb-true, le-leb, lt-leb, ltb-true, ltb-false}
 use native.Mathlib.Omega.{arith}
-use Rattle.name.specs.Name.{both, either, pick, kindOf}
+use Rattle.name.specs.Name.{both, either, pick, kindOf, byte0, byte1}
 use Rattle.name.specs.declared.Kind.{Kind}
 use Rattle.name.specs.declared.Kind.the-variants.{FORM, LIST, CAT, PROP, FILLER, LOCAL}
 use Rattle.chunk.specs.Chunks.{word, nextAt}
@@ -153,7 +153,7 @@ module _ (c : ℕ) (s : List ℕ) (from q : ℕ) (flags : List ℕ) where
 
 -- the first n classes and the last hold no repeat before r
 abbrev pub Covered : ℕ → List ℕ → ℕ → ℕ → Type 0
-Covered n s from r = (c : ℕ) → (c < n) ⊎ (c ≡ 37) → FreshIn c s from r
+Covered n s from r = (c : ℕ) → (c < n) ⊎ (c ≡ 75) → FreshIn c s from r
 
 fresh-lower : (c : ℕ) (s : List ℕ) (from r r' : ℕ) → r' ≤ r → FreshIn c s from r → FreshIn c s from r'
 unfolding FreshIn
@@ -171,12 +171,12 @@ prop-name n h = go (eqb n 0x464F524D) (eqb n 0x4C495354) (eqb n 0x43415420) (eqb
     go false false false false true i h = absurd (let y : _≡_ {A = ℕ} 0 1 = cc in omega arith)
     go false false false false false i h = absurd (let y : _≡_ {A = ℕ} 0 1 = cc in omega arith)
 
-class-below : (t : ℕ) → classOf t < 38
+class-below : (t : ℕ) → classOf t < 76
 unfolding classOf
-class-below t = digit-below _
+class-below t = omega (arith, digit-below (byte0 t), digit-below (byte1 t))
 
 module _ (s : List ℕ) (from : ℕ) where
-  pub covered-start : (r : ℕ) → FreshIn 37 s from r → Covered 0 s from r
+  pub covered-start : (r : ℕ) → FreshIn 75 s from r → Covered 0 s from r
   covered-start r f c (inl h) = absurd (omega arith)
   covered-start r f c (inr h) = rw h f
 
@@ -184,11 +184,11 @@ module _ (s : List ℕ) (from : ℕ) where
   covered-more n r r' h f a c (inl l) = ⊎-elim (λ u. let e : n ≡ c = omega arith in rw (← e) f) (λ u. fresh-lower c s from r r' h (a c (inl u))) (le-or-lt n c)
   covered-more n r r' h f a c (inr l) = fresh-lower c s from r r' h (a c (inr l))
 
-  pub covered-end : (n r : ℕ) → 37 ≤ n → Covered n s from r → Fresh s from r
+  pub covered-end : (n r : ℕ) → 75 ≤ n → Covered n s from r → Fresh s from r
   unfolding Fresh Settled FreshIn
   covered-end n r h a k l i =
       let c : ℕ = classOf (word s (place s from k + 8)) in
-      a c (⊎-elim (λ u. inl (omega arith)) (λ u. inr u) (below-suc c 37 (class-below (word s (place s from k + 8))))) k l
+      a c (⊎-elim (λ u. inl (omega arith)) (λ u. inr u) (below-suc c 75 (class-below (word s (place s from k + 8))))) k l
       (rw (eq-eqb _ _ (prop-name _ i)) (eq-eqb c c refl))
 
   pub fresh-none : Fresh s from 0
@@ -222,15 +222,18 @@ module _ (b : ℕ) where
   unfolding digitOf
   digit-below-space u h l = simp (lt-leb _ _ u, lt-leb _ _ h, ne-eqb _ _ l)
 
+pub class-of : (t a b : ℕ) → a ≡ digitOf (t / 16777216) → b ≡ digitOf (t / 65536 % 256) → a + b / 19 * 38 ≡ classOf t
+unfolding classOf
+class-of t a b i j = rw (← i, ← j)
+
 pub slot-of :
     (t b c d : ℕ) → b ≡ digitOf (t / 65536 % 256) → c ≡ digitOf (t / 256 % 256) → d ≡ digitOf (t % 256) →
-    b * 1444 + c * 38 + d ≡ slotOf t
+    b % 19 * 1444 + c * 38 + d ≡ slotOf t
 unfolding slotOf
 slot-of t b c d i j k = rw (← i, ← j, ← k)
 
 module _ (s : List ℕ) (p class a : ℕ) (e : a ≡ word s p) where
-  pub class-at : (t d : ℕ) → a ≡ 0x50524F50 → t ≡ word s (p + 8) → d ≡ digitOf (t / 16777216) → eqb d class ≡ inClass class s p
-  unfolding classOf
+  pub class-at : (t d : ℕ) → a ≡ 0x50524F50 → t ≡ word s (p + 8) → d ≡ classOf t → eqb d class ≡ inClass class s p
   class-at t d i f g = simp (← e, eq-eqb _ _ i, ← f, ← g)
 
   pub class-none : (a ≡ 0x50524F50 → ⊥) → false ≡ inClass class s p
@@ -284,4 +287,4 @@ pub settled-first :
 unfolding Settled
 settled-first s from p r t h l i e = rw e (sym (h l i))
 
-pub ruleset repeat-laws = (tracked-start, tracked-more, tracked-stop, tracked-end, covered-start, covered-more, covered-end, fresh-none, digit-letter, digit-after, digit-figure, digit-between, digit-space, digit-below-space, slot-of, class-at, class-none, flag-none, mark-none, flag-is, mark-set, marked-size, settled-first)
+pub ruleset repeat-laws = (tracked-start, tracked-more, tracked-stop, tracked-end, covered-start, covered-more, covered-end, fresh-none, digit-letter, digit-after, digit-figure, digit-between, digit-space, digit-below-space, slot-of, class-of, class-at, class-none, flag-none, mark-none, flag-is, mark-set, marked-size, settled-first)

@@ -65,9 +65,9 @@ right true b e = e
 right false b e = absurd (no e)
 
 digits-apart :
-    (a b c a' b' c' : ℕ) → a < 38 → b < 38 → c < 38 → a' < 38 → b' < 38 → c' < 38 → a * 1444 + b * 38 + c ≡ a' * 1444 + b' * 38 + c' →
-    (a ≡ a') × (b ≡ b') × (c ≡ c')
-digits-apart a b c a' b' c' h i j h' i' j' e = (omega arith, omega arith, omega arith)
+    (z a b c z' a' b' c' : ℕ) → z < 38 → a < 38 → b < 38 → c < 38 → z' < 38 → a' < 38 → b' < 38 → c' < 38 → z + a / 19 * 38 ≡ z' + a' / 19 * 38 →
+    a % 19 * 1444 + b * 38 + c ≡ a' % 19 * 1444 + b' * 38 + c' → (z ≡ z') × (a ≡ a') × (b ≡ b') × (c ≡ c')
+digits-apart z a b c z' a' b' c' g h i j g' h' i' j' d e = (omega arith, omega arith, omega arith, omega arith)
 
 last-byte : (a b : ℕ) → a / 256 ≡ b / 256 → a % 256 ≡ b % 256 → a ≡ b
 last-byte a b h l = omega arith
@@ -97,10 +97,11 @@ types-apart t u h l c e =
     let x = each (typeByte (byte0 t)) (typeByte (byte1 t)) (typeByte (byte2 t)) (typeByte (byte3 t)) h in
     let y = each (typeByte (byte0 u)) (typeByte (byte1 u)) (typeByte (byte2 u)) (typeByte (byte3 u)) l in
     let d =
-    digits-apart (digitOf (byte1 t)) (digitOf (byte2 t)) (digitOf (byte3 t)) (digitOf (byte1 u)) (digitOf (byte2 u)) (digitOf (byte3 u))
-    (digit-below (byte1 t)) (digit-below (byte2 t)) (digit-below (byte3 t)) (digit-below (byte1 u)) (digit-below (byte2 u)) (digit-below (byte3 u)) e in
+    digits-apart (digitOf (byte0 t)) (digitOf (byte1 t)) (digitOf (byte2 t)) (digitOf (byte3 t)) (digitOf (byte0 u)) (digitOf (byte1 u)) (digitOf (byte2 u)) (digitOf (byte3 u))
+    (digit-below (byte0 t)) (digit-below (byte1 t)) (digit-below (byte2 t)) (digit-below (byte3 t))
+    (digit-below (byte0 u)) (digit-below (byte1 u)) (digit-below (byte2 u)) (digit-below (byte3 u)) c e in
     bytes-apart t u
-    (byte-apart (byte0 t) (byte0 u) (x .0) (y .0) c)
-    (byte-apart (byte1 t) (byte1 u) (x .1) (y .1) (d .0))
-    (byte-apart (byte2 t) (byte2 u) (x .2) (y .2) (d .1))
-    (byte-apart (byte3 t) (byte3 u) (x .3) (y .3) (d .2))
+    (byte-apart (byte0 t) (byte0 u) (x .0) (y .0) (d .0))
+    (byte-apart (byte1 t) (byte1 u) (x .1) (y .1) (d .1))
+    (byte-apart (byte2 t) (byte2 u) (x .2) (y .2) (d .2))
+    (byte-apart (byte3 t) (byte3 u) (x .3) (y .3) (d .3))

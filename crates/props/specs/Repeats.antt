@@ -1,7 +1,7 @@
 -- Which PROPs of a LIST are known to have a type of their own before the walk comes to them: those that stand before a place up to
 -- which no PROP has the type of an earlier one. The search goes by the classes of types, one for each first byte, and in a class
 -- by the slots, one for each three bytes that follow.
-use Prim.Native.Nat.{ℕ, zero, suc, _+_, _-_, _*_, _<_}
+use Prim.Native.Nat.{ℕ, zero, suc, _+_, _-_, _*_, _/_, _%_, _<_}
 use mathlib.Core.Path.{_≡_}
 use mathlib.Core.List.{List}
 use mathlib.Core.Bool.{Bool, true, false}
@@ -26,10 +26,10 @@ digitOf b =
 
 -- the class and the slot of a type
 unfoldable pub classOf : ℕ → ℕ
-classOf t = digitOf (byte0 t)
+classOf t = digitOf (byte0 t) + digitOf (byte1 t) / 19 * 38
 
 unfoldable pub slotOf : ℕ → ℕ
-slotOf t = digitOf (byte1 t) * 1444 + digitOf (byte2 t) * 38 + digitOf (byte3 t)
+slotOf t = digitOf (byte1 t) % 19 * 1444 + digitOf (byte2 t) * 38 + digitOf (byte3 t)
 
 -- a PROP whose type is of class c stands at p
 abbrev pub inClass : ℕ → List ℕ → ℕ → Bool

@@ -16,6 +16,7 @@ ghost use Rattle.chunk.specs.Chunks.{word};
 ghost use Rattle.chunk.specs.Rules.{propAt, propBefore, secondProp};
 ghost use Rattle.props.specs.Repeats.{
   digitOf,
+  classOf,
   slotOf,
   inClass,
   Settled,
@@ -80,31 +81,40 @@ fn digit(b: u32) -> usize
     37
 }
 
-// Where the flag of a type stands, by its last three bytes.
+// Where the flag of a type of one class stands, by its last three bytes.
 fn slot(t: Name) -> usize
-    ensures { λ r. ⌜ (r ≡ slotOf (t .code)) × (r < 54872) ⌝ }
+    ensures { λ r. ⌜ (r ≡ slotOf (t .code)) × (r < 27436) ⌝ }
 {
     let b = digit(t.code / 65536 % 256);
     let c = digit(t.code / 256 % 256);
     let d = digit(t.code % 256);
-    b * 1444 + c * 38 + d
+    b % 19 * 1444 + c * 38 + d
 }
 
-// Whether a PROP stands at p whose type has the first byte of this class.
+// The class of a type: by its first byte, and by which half of the bytes its second is in.
+fn class_of(t: Name) -> usize
+    ensures { λ r. ⌜ r ≡ classOf (t .code) ⌝ }
+{
+    let a = digit(t.code / 16777216);
+    let b = digit(t.code / 65536 % 256);
+    a + b / 19 * 38
+}
+
+// Whether a PROP stands at p whose type is of this class.
 fn in_class(s: &[u8], p: usize, class: usize) -> bool
     requires { ⌜ p + 12 ≤ length (now s) ⌝ }
     ensures { λ r. ⌜ r ≡ inClass class (now (s .entry)) p ⌝ }
 {
     if name_at(s, p).code == Name::PROP.code {
-        digit(name_at(s, p + 8).code / 16777216) == class
+        class_of(name_at(s, p + 8)) == class
     } else {
         false
     }
 }
 
 // Flags the type of the PROP at p, if it is of this class; whether the flag was set before.
-fn flagged(s: &[u8], p: usize, class: usize, flags: &mut [u8; 54872]) -> bool
-    requires { ⌜ (p + 12 ≤ length (now s)) × (length (now flags) ≡ 54872) ⌝ }
+fn flagged(s: &[u8], p: usize, class: usize, flags: &mut [u8; 27436]) -> bool
+    requires { ⌜ (p + 12 ≤ length (now s)) × (length (now flags) ≡ 27436) ⌝ }
     ensures is { λ r. ⌜ r ≡ both (inClass class (now (s .entry)) p) (eqb (getD (now (flags .entry)) (slotOf (word (now (s .entry)) (p + 8))) 0) 1) ⌝ }
     ensures marked { λ r. ⌜ Marked (inClass class (now (s .entry)) p) (slotOf (word (now (s .entry)) (p + 8))) (now (flags .entry)) (now (flags .exit)) ⌝ }
 {
@@ -124,7 +134,7 @@ fn fresh_in_class(s: &[u8], from: usize, limit: usize, class: usize) -> usize
     ensures within { λ r. ⌜ r ≤ limit ⌝ }
     ensures fresh { λ r. ⌜ FreshIn class (now (s .entry)) from r ⌝ }
 {
-    let mut flags = [0u8; 54872];
+    let mut flags = [0u8; 27436];
     let mut q = from;
     while q < limit {
         if flagged(s, q, class, &mut flags) {
@@ -141,9 +151,9 @@ fn fresh_before(s: &[u8], from: usize, limit: usize) -> usize
     requires { ⌜ limit ≤ length (now s) - 11 ⌝ }
     ensures { λ r. ⌜ Fresh (now (s .entry)) from r ⌝ }
 {
-    let mut r = fresh_in_class(s, from, limit, 37);
+    let mut r = fresh_in_class(s, from, limit, 75);
     let mut class = 0;
-    while class < 37 {
+    while class < 75 {
         r = fresh_in_class(s, from, r, class);
         class = class + 1;
     }

@@ -1,4 +1,4 @@
--- The loop keeps that the classes so far, and the last, hold no repeat before r; a type is of one of the 38 classes.
+-- The loop keeps that the classes so far, and the last, hold no repeat before r; a type is of one of the 76 classes.
 use Prim.Native.Nat.{_-_, _≤_}
 use lib.ListN.{length}
 use Rattle.props.proofs.RepeatLaws.{repeat-laws, Covered}
@@ -13,7 +13,7 @@ abbrev Inv-loop : tie.InvT-loop
 Inv-loop s from limit r₀ class₀ r class = (r ≤ length s - 11) × Covered class s from r
 
 abbrev μ-loop : tie.MeasureT-loop
-μ-loop s from limit r₀ class₀ r class = 37 - class
+μ-loop s from limit r₀ class₀ r class = 75 - class
 
 fresh-in-class-requires : tie.Need-fresh-in-class-requires Inv-loop μ-loop
 fresh-in-class-requires c κs = search (repeat-laws, needs)

@@ -12,13 +12,13 @@ use Rattle.props.proofs.flagged.Reads as flagged-reads
 use Rattle.chunk.proofs.next_at.Reads as next-at-reads
 
 abbrev Inv-loop : tie.InvT-loop
-Inv-loop s from limit class flags₀ q₀ flags q = (length flags ≡ 54872) × Tracked class s from q flags
+Inv-loop s from limit class flags₀ q₀ flags q = (length flags ≡ 27436) × Tracked class s from q flags
 
 abbrev μ-loop : tie.MeasureT-loop
 μ-loop s from limit class flags₀ q₀ flags q = limit - q
 
 loop-holds : tie.Need-loop-holds Inv-loop μ-loop
-loop-holds c = (length-replicate {A = ℕ} 54872 0, search (repeat-laws, needs))
+loop-holds c = (length-replicate {A = ℕ} 27436 0, search (repeat-laws, needs))
 
 flagged-requires : tie.Need-flagged-requires Inv-loop μ-loop
 flagged-requires c κs = search (repeat-laws, needs)

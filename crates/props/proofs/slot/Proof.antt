@@ -1,4 +1,4 @@
--- The three digits, each below 38, make the slot, which is below 38 * 38 * 38.
+-- The three digits, each below 38, make the slot, which is below 19 * 38 * 38.
 use Rattle.props.proofs.RepeatLaws.{repeat-laws}
 use borrow.Author.Needs.{needs}
 use Rattle.props.proofs.slot.Statement.{statement}
