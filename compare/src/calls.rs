@@ -1,6 +1,6 @@
 //! The calls that are compared.
 
-use crate::{check, copy, data, pictures, record, Outcome, Subject, Tally};
+use crate::{check, copy, data, pictures, reader, record, table, Outcome, Subject, Tally};
 use crate::{dest, frame, grab, header, line, pack, palette, sprite, view_mode, write};
 use second::random::Random;
 
@@ -19,6 +19,8 @@ pub struct Call {
 pub const CALLS: &[Call] = &[
     check::CALL,
     record::CALL,
+    table::CALL,
+    reader::CALL,
     data::CALL,
     copy::CALL,
     pictures::CALL,
