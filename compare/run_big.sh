@@ -1,5 +1,5 @@
 #!/bin/sh
-# The largest and deepest files with a stack of 256 KiB.
+# The largest and deepest files on a thread with 128 KiB of stack, the rest of the program with 256 KiB.
 set -eu
 cd "$(dirname "$0")"
 CARGO_TARGET_DIR=${CARGO_TARGET_DIR:-$PWD/../target/cargo}

@@ -67,8 +67,8 @@ use Rattle.records.proofs.Locals.{R, word, fileTy, tableTy}
 abbrev stayed : Stays (f.ended .signature .params) (f.ended .kept)
 stayed = (stay-none-slice (0 ∷ []) tt (plain (λ _. u8)) yes, (gave-slice (1 ∷ []) tt (plain (λ _. R)), tt))
 
-abbrev lentTy : Ty
-lentTy = tyRef erased mut (pointee (R .written))
+abbrev reborrowTy : Ty
+reborrowTy = tyRef erased mut (pointee (R .written))
 
 -- the function, with the types of its locals written out
 abbrev spelled : Fn
@@ -76,7 +76,7 @@ spelled = record {
   lifetimes = 2;
   outlives = [];
   params = 2;
-  locals = local Ver′.mir valueLocal ∷ local fileTy valueLocal ∷ local tableTy valueLocal ∷ local Ver′.mir valueLocal ∷ local word valueLocal ∷ local tyUnit valueLocal ∷ local lentTy valueLocal ∷ local (sliceTy lentTy) valueLocal ∷ [];
+  locals = local Ver′.mir valueLocal ∷ local fileTy valueLocal ∷ local tableTy valueLocal ∷ local Ver′.mir valueLocal ∷ local word valueLocal ∷ local tyUnit valueLocal ∷ local reborrowTy valueLocal ∷ local (sliceTy reborrowTy) valueLocal ∷ [];
   body = body.t-1;
 }
 
@@ -195,11 +195,11 @@ module _ {M : Type 1} (𝓤 : URA M) (H : Heap 𝓤) (A : Atoms 𝓤) (W : Given
     Λ = 𝓣 .Λ
 
     abbrev En : Env 𝓤 H
-    En = (Ver′.mir, l₀) ∷ (fileTy, l₁) ∷ (tableTy, l₂) ∷ (Ver′.mir, l₃) ∷ (word, l₄) ∷ (tyUnit, l₅) ∷ (lentTy, l₆) ∷ (sliceTy lentTy, l₇) ∷ []
+    En = (Ver′.mir, l₀) ∷ (fileTy, l₁) ∷ (tableTy, l₂) ∷ (Ver′.mir, l₃) ∷ (word, l₄) ∷ (tyUnit, l₅) ∷ (reborrowTy, l₆) ∷ (sliceTy reborrowTy, l₇) ∷ []
 
     abbrev Before : List (Item 𝓤)
     Before =
-        ‵ (froom (sliceTy lentTy) l₇ 0) ∷ ‵ (fdies (sliceTy lentTy) l₇) ∷ ‵ (froom lentTy l₆ 0) ∷ ‵ (fdies lentTy l₆) ∷ ‵ (froom tyUnit l₅ 0) ∷ ‵ (fdies tyUnit l₅) ∷ ‵ (froom word l₄ 0) ∷ ‵ (fdies word l₄)
+        ‵ (froom (sliceTy reborrowTy) l₇ 0) ∷ ‵ (fdies (sliceTy reborrowTy) l₇) ∷ ‵ (froom reborrowTy l₆ 0) ∷ ‵ (fdies reborrowTy l₆) ∷ ‵ (froom tyUnit l₅ 0) ∷ ‵ (fdies tyUnit l₅) ∷ ‵ (froom word l₄ 0) ∷ ‵ (fdies word l₄)
         ∷ ‵ (froom Ver′.mir l₃ 0) ∷ ‵ (fdies Ver′.mir l₃) ∷ ‵ (fat fullShare tableTy l₂ 0 tv) ∷ ‵ (fdies tableTy l₂) ∷ ‵ (fat fullShare fileTy l₁ 0 fv) ∷ ‵ (fdies fileTy l₁) ∷ ‵ (froom Ver′.mir l₀ 0) ∷ ‵ (fdies Ver′.mir l₀)
         ∷ (‵ (flft κ q) ⊛ (‵ (flft κ′ q′) ⊛ ‵ ftrue)) ∷ ‵ (owns (ShrSlice (named 0) κ u8 ∷ MutSlice (named 1) κ′ R ∷ []) a vals) ∷ []
 
