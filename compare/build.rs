@@ -13,4 +13,9 @@ fn main() {
     }
     println!("cargo:rustc-link-search=native={}", folder.display());
     println!("cargo:rustc-link-lib=static=listings");
+    if std::env::var_os("CARGO_FEATURE_RECORDS").is_some() {
+        let code = folder.join("../records/fill.o");
+        println!("cargo:rerun-if-changed={}", code.display());
+        println!("cargo:rustc-link-arg-bin=records={}", code.display());
+    }
 }

@@ -13,6 +13,7 @@ pub mod large;
 mod later;
 pub mod listings;
 mod property;
+pub mod shapes;
 mod subject;
 mod tally;
 pub mod worked;

@@ -1,0 +1,99 @@
+//! Measures the table of record structs: twice the chunks must not take more than
+//! 2.3 times as long. What it holds is compared with a plain walk. Linked by
+//! run_records.sh with the code of `records::fill`, which can't be exported.
+
+use compare::listings::{plain, Table};
+use compare::shapes::{now, Make, SHAPES};
+
+/// The compiler's layout of a record.
+#[repr(C)]
+#[derive(Clone)]
+struct Record {
+    number: usize,
+    level: usize,
+    kind: u8,
+    name: u32,
+    place: usize,
+    size: usize,
+}
+
+#[repr(C)]
+struct Lent<T> {
+    start: *mut T,
+    length: usize,
+}
+
+extern "C" {
+    fn records_fill(answer: *mut [usize; 8], file: *const Lent<u8>, table: *const Lent<Record>);
+}
+
+const TURNS: usize = 15;
+const GROWTH: f64 = 2.3;
+const UNTOUCHED: Record = Record { number: 9, level: 9, kind: 9, name: 9, place: 9, size: 9 };
+
+fn fill(file: &mut [u8], table: &mut [Record]) {
+    let mut answer = [0; 8];
+    let file = Lent { start: file.as_mut_ptr(), length: file.len() };
+    let table = Lent { start: table.as_mut_ptr(), length: table.len() };
+    unsafe { records_fill(&mut answer, &file, &table) }
+}
+
+/// The number of a kind, from the compiler's, which has filler before local chunks.
+fn kind_number(kind: u8) -> u8 {
+    match kind {
+        4 => 5,
+        5 => 4,
+        other => other,
+    }
+}
+
+fn same(table: &[Record], expected: &Table) -> bool {
+    table.iter().enumerate().all(|(n, record)| {
+        record.number == expected.numbers[n]
+            && record.level == expected.levels[n]
+            && kind_number(record.kind) == expected.kinds[n]
+            && record.name == expected.names[n]
+            && record.place == expected.places[n]
+            && record.size == expected.sizes[n]
+    })
+}
+
+/// The least time of some turns, in seconds.
+fn least(mut file: Vec<u8>, chunks: usize) -> Result<f64, String> {
+    let mut table = vec![UNTOUCHED; chunks + 1];
+    let mut expected = Table::new(chunks + 1);
+    let mut least = f64::MAX;
+    for _ in 0..TURNS {
+        table.fill(UNTOUCHED);
+        let start = now();
+        fill(&mut file, &mut table);
+        least = least.min(now() - start);
+    }
+    if plain(&file, &mut expected) != chunks || !same(&table, &expected) {
+        return Err("the table differs from the plain walk's".to_string());
+    }
+    Ok(least)
+}
+
+fn measure(make: Make, members: usize, chunks: fn(usize) -> usize) -> Result<(), String> {
+    let half = least(make(members / 2), chunks(members / 2))?;
+    let whole = least(make(members), chunks(members))?;
+    let growth = whole / half;
+    println!("    {} chunks: {:.1} ms, {growth:.2} times the half", chunks(members), whole * 1e3);
+    if growth > GROWTH {
+        return Err(format!("more than {GROWTH} times the half"));
+    }
+    Ok(())
+}
+
+fn main() {
+    let mut failed = false;
+    for (label, make, members, chunks) in SHAPES {
+        println!("{label}:");
+        if let Err(what) = measure(make, members, chunks) {
+            println!("{label}: {what}");
+            failed = true;
+        }
+    }
+    std::process::exit(failed as i32);
+}
