@@ -1,4 +1,5 @@
--- Each way through the code takes the same branch of the definition; the places it reads lie inside by laws of Laws.antt.
+-- The loops of `members` count the BODYs and find the first; each of the six properties is looked up among the members before it,
+-- or in the PROP.
 use Rattle.content.proofs.Laws.{plain-bmhd, plain-cmap, plain-grab, plain-dest, plain-sprt, plain-camg, all-content}
 use borrow.Author.Needs.{needs}
 use Rattle.content.proofs.content_at.Statement.{statement}

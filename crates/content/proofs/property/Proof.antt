@@ -1,4 +1,5 @@
--- Each way through the code takes the same branch of the definition; the places it reads lie inside by laws of Laws.antt.
+-- The members before the first BODY are a row of their own: the last one of the name counts, and where there is none the shared
+-- PROP decides.
 use Rattle.content.proofs.Laws.{until-row, counts-own, counts-shared}
 use borrow.Author.Needs.{needs}
 use Rattle.content.proofs.property.Statement.{statement}

@@ -1,4 +1,4 @@
--- Each way through the code takes the same branch of the definition; the places it reads lie inside by laws of Laws.antt.
+-- Without a PROP nothing is shared; with one, its members are a row, and the last one of the name is shared by it.
 use Rattle.content.proofs.Laws.{prop-laws}
 use borrow.Author.Needs.{needs}
 use Rattle.content.proofs.shared_property.Statement.{statement}

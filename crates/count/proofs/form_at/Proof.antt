@@ -1,4 +1,4 @@
--- Each way through the code takes the same branch of the definition; the places it reads lie inside by laws of Laws.antt.
+-- A chunk at p has its name, and a group its type, inside the file; the two tests are those of the definition.
 use borrow.Author.Needs.{needs}
 use Rattle.count.proofs.Laws.{header-room, type-room, form-hit, form-other, form-none}
 use Rattle.count.proofs.form_at.Statement.{statement}

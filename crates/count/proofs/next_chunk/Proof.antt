@@ -1,4 +1,4 @@
--- Each way through the code takes the same branch of the definition; the places it reads lie inside by laws of Laws.antt.
+-- A group is entered behind its type, and any other chunk is passed with its pad: the size made even is the size and its pad.
 use borrow.Author.Needs.{needs}
 use Rattle.count.proofs.Laws.{header-room, size-room, following-group, following-leaf}
 use Rattle.count.proofs.next_chunk.Statement.{statement}

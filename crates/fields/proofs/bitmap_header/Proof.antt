@@ -1,4 +1,4 @@
--- Each way through the code takes the same branch of the definition; the places it reads lie inside by laws of Laws.antt.
+-- Each field lies in the 20 bytes that are required, at the offset that the definition has.
 use Rattle.fields.proofs.Laws.{same-bits, bitmap-header}
 use borrow.Author.Needs.{needs}
 use Rattle.fields.proofs.bitmap_header.Statement.{statement}

@@ -1,4 +1,4 @@
--- Each way through the code takes the same branch of the definition; the places it reads lie inside by laws of Laws.antt.
+-- Both fields lie in the 4 bytes that are required, at the offset that the definition has.
 use Rattle.fields.proofs.Laws.{same-bits, hot-spot}
 use borrow.Author.Needs.{needs}
 use Rattle.fields.proofs.grab_fields.Statement.{statement}

@@ -1,4 +1,4 @@
--- Each way through the code takes the same branch of the definition; the places it reads lie inside by laws of Laws.antt.
+-- Below 32,768 the number is itself, and from there on it is less by 65,536: -1 - (65535 - v).
 use native.Mathlib.Omega.{arith}
 use Rattle.fields.proofs.Laws.{signed-low, high-fits, signed-high}
 use borrow.Author.Needs.{needs}

@@ -1,4 +1,4 @@
--- Each way through the code takes the same branch of the definition; the places it reads lie inside by laws of Laws.antt.
+-- The two bytes at i make the word, whose sign is the callee's.
 use Rattle.fields.proofs.Laws.{same-bits}
 use mathlib.Core.Path.{_∙_, ap}
 use Rattle.ilbm.specs.Pictures.{signed}

@@ -1,4 +1,4 @@
--- Each way through the code takes the same branch of the definition; the places it reads lie inside by laws of Laws.antt.
+-- Only a group has a type, 8 bytes behind its place; name and type are then compared.
 use Rattle.locate.proofs.Laws.{name-room, type-room, group-tested, leaf-tested}
 use borrow.Author.Needs.{needs}
 use Rattle.locate.proofs.group_is.Statement.{statement}

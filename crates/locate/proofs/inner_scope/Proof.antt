@@ -1,4 +1,4 @@
--- Each way through the code takes the same branch of the definition; the places it reads lie inside by laws of Laws.antt.
+-- Only a LIST has PROPs: its members are a row, in which `shared_prop` looks. Any other group keeps the PROP around it.
 use Rattle.locate.proofs.Laws.{group-laws}
 use borrow.Author.Needs.{needs}
 use Rattle.locate.proofs.inner_scope.Statement.{statement}

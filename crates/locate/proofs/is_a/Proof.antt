@@ -1,4 +1,4 @@
--- Each way through the code takes the same branch of the definition; the places it reads lie inside by laws of Laws.antt.
+-- Both comparisons, one after the other, are their conjunction.
 use borrow.Author.Needs.{needs}
 use Rattle.locate.proofs.Laws.{is-a-hit, is-a-miss}
 use Rattle.locate.proofs.is_a.Statement.{statement}

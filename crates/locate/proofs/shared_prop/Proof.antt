@@ -1,4 +1,5 @@
--- The loop keeps what is still to come equal to the whole answer; one turn and the end are laws of Laws.antt.
+-- Before each turn the PROP of the members still to come is that of all: a PROP ILBM ends the search, and at the end the one
+-- around is left.
 use Prim.Native.Nat.{ℕ, _-_, _≤_}
 use native.Mathlib.Omega.{arith}
 use borrow.Author.Needs.{needs}

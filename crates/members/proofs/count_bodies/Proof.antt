@@ -1,4 +1,4 @@
--- The loop keeps what is still to come equal to the whole answer; one turn and the end are laws of Laws.antt.
+-- Before each turn the BODYs counted and those among the members still to come are all of them. The measure is the bytes left.
 use Prim.Native.Nat.{ℕ, _+_, _-_, _≤_}
 use native.Mathlib.Omega.{arith}
 use borrow.Author.Needs.{needs}

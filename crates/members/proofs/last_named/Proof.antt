@@ -1,4 +1,5 @@
--- The loop keeps what is still to come equal to the whole answer; one turn and the end are laws of Laws.antt.
+-- Before each turn the last of the name among the members still to come, or else the part held, is that of all. The measure is
+-- the bytes left.
 use Prim.Native.Nat.{ℕ, _+_, _-_, _≤_}
 use native.Mathlib.Omega.{arith}
 use borrow.Author.Needs.{needs}

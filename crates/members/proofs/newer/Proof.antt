@@ -1,4 +1,4 @@
--- Each way through the code takes the same branch of the definition.
+-- A hit takes the member's data, and else the part stays.
 use borrow.Author.Needs.{needs}
 use Rattle.members.proofs.newer.Statement.{statement}
 use Rattle.members.proofs.newer.Tie as tie

@@ -1,4 +1,5 @@
--- Each way through the code takes the same branch of the definition; the places it reads lie inside by laws of Laws.antt.
+-- The header of a member lies inside the file, and the next one stands behind its data and pad: the size made even is the size
+-- and its pad.
 use mathlib.Core.Path.{refl}
 use native.Mathlib.Omega.{arith}
 use Rattle.members.proofs.Laws.{row-room, front-read, sibling-inside}

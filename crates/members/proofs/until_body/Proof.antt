@@ -1,4 +1,5 @@
--- The loop keeps what is still to come equal to the whole answer; one turn and the end are laws of Laws.antt.
+-- Before each turn the members passed hold no BODY, so the place where the rest stops is where all stop. The measure is the bytes
+-- left.
 use Prim.Native.Nat.{ℕ, _+_, _-_, _≤_}
 use native.Mathlib.Omega.{arith}
 use borrow.Author.Needs.{needs}

@@ -1,4 +1,4 @@
--- Each way through the code takes the same branch of the definition, by laws of PaletteLaws.antt.
+-- A picture that is seen has its CMAP as a part, or none; a refusal has an empty part.
 use borrow.Author.Needs.{needs}
 use Rattle.picture.proofs.PaletteLaws.{colours-seen, colours-unseen}
 use Rattle.picture.proofs.colours_of.Statement.{statement}

@@ -1,4 +1,4 @@
--- Each way through the code takes the same branch of the definition; the part lies inside by the requirement.
+-- The part lies inside the file, as is required; no part is the default.
 use borrow.Author.Needs.{needs}
 use Rattle.picture.proofs.PaletteLaws.{part-order, part-inside, part-taken, part-placed}
 use Rattle.picture.proofs.part_or.Statement.{statement}

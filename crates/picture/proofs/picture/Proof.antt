@@ -1,4 +1,4 @@
--- Each way through the code takes the same branch of the definition; the places it reads lie inside by laws of Laws.antt.
+-- The view of the picture, told field by field, or its refusal passed on.
 use borrow.Author.Needs.{needs}
 use Rattle.picture.proofs.Laws.{seen-judged, picture-seen, picture-unseen}
 use Rattle.picture.proofs.picture.Statement.{statement}

@@ -1,4 +1,4 @@
--- Each way through the code takes the same branch of the definition; the places it reads lie inside by laws of Laws.antt.
+-- Each property has the size that the judgement asked for, so that its fields can be read; the origins are copied.
 use borrow.Author.Needs.{needs}
 use Rattle.picture.proofs.Laws.{bmhd-right, grab-right, dest-right, sprt-right, camg-right, picture-told}
 use Rattle.picture.proofs.picture_from.Statement.{statement}

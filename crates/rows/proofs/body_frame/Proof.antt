@@ -1,4 +1,5 @@
--- Each way through the code takes the same branch of the definition; the places it reads lie inside by laws of Laws.antt.
+-- The header was judged, so that its fields are in the bounds of `scan_frame`; a frame of another length is 28, and what the scan
+-- answers is told.
 use native.Mathlib.Omega.{arith}
 use Rattle.picture.proofs.Laws.{bmhd-right}
 use borrow.Author.Needs.{needs}

@@ -1,4 +1,5 @@
--- Each way through the code takes the same branch of the definition; the places it reads lie inside by laws of Laws.antt.
+-- The start is tested before the length of the row (29, 28); the header was judged, so that its fields are in the bounds of
+-- `scan_row`.
 use native.Mathlib.Omega.{arith}
 use Rattle.picture.proofs.Laws.{bmhd-right}
 use borrow.Author.Needs.{needs}

@@ -1,4 +1,4 @@
--- Each way through the code takes the same branch of the definition; the places it reads lie inside by laws of Laws.antt.
+-- Without a BODY it is 25; with one, `body_frame` has the answer.
 use borrow.Author.Needs.{needs}
 use Rattle.rows.proofs.Laws.{frame-25}
 use Rattle.rows.proofs.picture_frame.Statement.{statement}

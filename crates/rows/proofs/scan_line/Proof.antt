@@ -1,4 +1,4 @@
--- Each way through the code takes the same branch of the definition; the places it reads lie inside by laws of Laws.antt.
+-- A picture that is seen was judged; a refusal is passed on and leaves the row.
 use borrow.Author.Needs.{needs}
 use Rattle.rows.proofs.Laws.{seen-judged, line-seen, line-unseen}
 use Rattle.rows.proofs.scan_line.Statement.{statement}

@@ -1,4 +1,4 @@
--- Each way through the code takes the same branch of the definition; the places it reads lie inside by laws of ViewLaws.antt.
+-- Without a BMHD it is 21; with one, `sized_fault` goes on from 22.
 use Rattle.view.proofs.ViewLaws.{fault-21}
 use borrow.Author.Needs.{needs}
 use Rattle.view.proofs.fault.Statement.{statement}

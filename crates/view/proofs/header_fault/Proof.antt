@@ -1,4 +1,4 @@
--- Each way through the code takes the same branch of the definition; the places it reads lie inside by laws of Laws.antt.
+-- The tests are those of the definition, in its order; w, h and planes of 0 count only beside a BODY.
 use borrow.Author.Needs.{needs}
 use Rattle.view.proofs.Laws.{many-planes, odd-masking, odd-compression, no-width, no-height, no-planes, shown, no-body}
 use Rattle.view.proofs.header_fault.Statement.{statement}

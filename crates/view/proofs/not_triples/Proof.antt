@@ -1,4 +1,4 @@
--- Each way through the code takes the same branch of the definition; the places it reads lie inside by laws of Laws.antt.
+-- An absent CMAP has no wrong size; else the part ends where it begins or behind it, and its length is tested.
 use Rattle.view.proofs.Laws.{sized-order, triples-none, triples-some}
 use borrow.Author.Needs.{needs}
 use Rattle.view.proofs.not_triples.Statement.{statement}

@@ -1,4 +1,4 @@
--- Each way through the code takes the same branch of the definition; the places it reads lie inside by laws of ViewLaws.antt.
+-- 22 and 23 come first, so that BMHD has its 20 bytes when its fields are read for 24.
 use Rattle.view.proofs.ViewLaws.{fault-22, fault-23, fault-24, part-order, part-inside, header-room}
 use borrow.Author.Needs.{needs}
 use Rattle.view.proofs.sized_fault.Statement.{statement}

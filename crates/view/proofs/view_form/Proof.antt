@@ -1,4 +1,4 @@
--- Each way through the code takes the same branch of the definition; the places it reads lie inside by laws of ViewLaws.antt.
+-- The members of the FORM are a row, whose content is judged; it is seen if the judgement is 0.
 use Rattle.view.proofs.ViewLaws.{form-row, form-scoped, form-full, form-seen, form-unseen}
 use borrow.Author.Needs.{needs}
 use Rattle.view.proofs.view_form.Statement.{statement}

@@ -1,4 +1,4 @@
--- Each way through the code takes the same branch of the definition; the places it reads lie inside by laws of ViewLaws.antt.
+-- What the check accepts is sound, so that the picture can be looked for; what it refuses is passed on.
 use mathlib.Core.Path.{sym, _∙_}
 use native.Mathlib.Omega.{arith}
 use Rattle.flat.specs.Coming.{accepted-sound}

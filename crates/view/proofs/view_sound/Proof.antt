@@ -1,4 +1,4 @@
--- Each way through the code takes the same branch of the definition; the places it reads lie inside by laws of ViewLaws.antt.
+-- The search finds the FORM of the picture, which lies in the file with its PROP, or tells that there are too few.
 use Rattle.view.proofs.ViewLaws.{sound-row, no-scope, spot-form, view-here, placed-here, view-left}
 use borrow.Author.Needs.{needs}
 use Rattle.view.proofs.view_sound.Statement.{statement}

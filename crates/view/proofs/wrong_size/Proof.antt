@@ -1,4 +1,4 @@
--- Each way through the code takes the same branch of the definition; the places it reads lie inside by laws of Laws.antt.
+-- The six tests are those of the definition, each on its own property.
 use borrow.Author.Needs.{needs}
 use Rattle.view.proofs.Laws.{sized-bmhd, sized-cmap, sized-grab, sized-dest, sized-sprt, sized-camg, wrong-bmhd, wrong-cmap, wrong-grab, wrong-dest, wrong-sprt, wrong-camg}
 use Rattle.view.proofs.wrong_size.Statement.{statement}
