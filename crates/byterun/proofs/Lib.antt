@@ -1,4 +1,2 @@
 pub mod Codes
-pub mod Plain
-pub mod Runs
 pub mod Steps

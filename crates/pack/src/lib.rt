@@ -202,7 +202,7 @@ fn put_literal(out: &mut [u8], at: usize, row: &[u8], i: usize, count: usize)
 {
     let code = (count - 1) as u8;
     out[at] = code;
-    byterun::copy_run(row, i, out, at + 1, count);
+    runs::copy_run(row, i, out, at + 1, count);
 }
 
 // Writes the packed row, which fits, to the start of out, and tells its length.

@@ -1,7 +1,7 @@
 // A scan line and a frame of a BODY: every plane row is judged before the first byte is written.
 use byterun::RowAnswer;
 use byterun::judge_row;
-use byterun::write_row;
+use unpack::write_row;
 ghost use mathlib.Core.Path.{_≡_};
 ghost use Prim.Native.Nat.{_+_, _*_, _/_, _≤_, _<_};
 ghost use lib.ListN.{length, take};

@@ -163,7 +163,7 @@ fn put_head(name: usize, size: usize, out: &mut [u8], at: usize)
     ensures { λ _. ⌜ now (out .exit) ≡ put (now (out .entry)) at (chunkHead name size) ⌝ }
 {
     let head = head_bytes(name, size);
-    byterun::copy_run(&head, 0, out, at, 8);
+    runs::copy_run(&head, 0, out, at, 8);
 }
 
 // Writes the type of the FORM, the header of BMHD and BMHD's data.
@@ -172,9 +172,9 @@ fn put_header(b: BitmapHeader, out: &mut [u8])
     ensures { λ _. ⌜ now (out .exit) ≡ put (now (out .entry)) 8 (typeAndHeader b) ⌝ }
 {
     let kind = [73u8, 76, 66, 77, 66, 77, 72, 68, 0, 0, 0, 20];
-    byterun::copy_run(&kind, 0, out, 8, 12);
+    runs::copy_run(&kind, 0, out, 8, 12);
     let head = header_bytes(b);
-    byterun::copy_run(&head, 0, out, 20, 20);
+    runs::copy_run(&head, 0, out, 20, 20);
 }
 
 // Writes the pad of a chunk of so many bytes.
@@ -206,7 +206,7 @@ fn put_palette(palette: &[u8], out: &mut [u8])
     let n = palette.len();
     if n != 0 {
         put_head(0x434D4150, n, out, 40);
-        byterun::copy_run(palette, 0, out, 48, n);
+        runs::copy_run(palette, 0, out, 48, n);
         put_pad(n, out, 48 + n);
     }
 }

@@ -2,7 +2,7 @@
 use native.Mathlib.Omega.{arith}
 use lib.ListN.{length-set}
 use borrow.Author.Needs.{needs}
-use Rattle.byterun.proofs.Runs.{pasted-eight}
+use Rattle.runs.proofs.Runs.{pasted-eight}
 use Rattle.scan.proofs.put_eight.Statement.{statement}
 use Rattle.scan.proofs.put_eight.Tie as tie
 

@@ -1,11 +1,11 @@
 -- `read_row` meets its contract: a row that was judged full may be written, and a refusal leaves it.
 use lib.ListN.{length}
 use Rattle.byterun.specs.ByteRun.{Row, rowOf}
 use Rattle.byterun.specs.Laws.{judged-full}
-use Rattle.byterun.proofs.Plain.{read-full, read-over, read-short}
+use Rattle.unpack.proofs.Plain.{read-full, read-over, read-short}
 use borrow.Author.Needs.{needs}
-use Rattle.byterun.proofs.read_row.Statement.{statement}
-use Rattle.byterun.proofs.read_row.Tie as tie
+use Rattle.unpack.proofs.read_row.Statement.{statement}
+use Rattle.unpack.proofs.read_row.Tie as tie
 
 -- the row that is asked for
 abbrev asked : tie.Start → Row

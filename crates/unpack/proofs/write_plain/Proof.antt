@@ -1,8 +1,8 @@
 -- `write_plain` meets its contract: a row that is full lies inside the BODY, and is that part of it.
-use Rattle.byterun.proofs.Plain.{plain}
+use Rattle.unpack.proofs.Plain.{plain}
 use borrow.Author.Needs.{needs}
-use Rattle.byterun.proofs.write_plain.Statement.{statement}
-use Rattle.byterun.proofs.write_plain.Tie as tie
+use Rattle.unpack.proofs.write_plain.Statement.{statement}
+use Rattle.unpack.proofs.write_plain.Tie as tie
 
 returns : tie.Need-returns
 returns c = search (plain, needs)

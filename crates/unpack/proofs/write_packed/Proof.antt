@@ -4,10 +4,10 @@ use Prim.Native.Nat.{_-_, _≤_}
 use mathlib.Core.Path.{_≡_}
 use lib.ListN.{length, take}
 use borrow.Author.Needs.{needs}
 use Rattle.byterun.specs.ByteRun.{unpackRow, prepend}
-use Rattle.byterun.proofs.Steps.{writing, write-copied, write-repeated}
-use Rattle.byterun.proofs.write_packed.Statement.{statement}
-use Rattle.byterun.proofs.write_packed.Tie as tie
+use Rattle.unpack.proofs.Steps.{writing, write-copied, write-repeated}
+use Rattle.unpack.proofs.write_packed.Statement.{statement}
+use Rattle.unpack.proofs.write_packed.Tie as tie
 
 abbrev Inv-loop : tie.InvT-loop
 Inv-loop body at row₀ next₀ done₀ row next done =

@@ -1,8 +1,8 @@
 -- By eights, and the rest one by one: a paste behind a paste.
-use Rattle.byterun.proofs.Runs.{rest-copied}
+use Rattle.runs.proofs.Runs.{rest-copied}
 use borrow.Author.Needs.{needs}
-use Rattle.byterun.proofs.copy_run.Statement.{statement}
-use Rattle.byterun.proofs.copy_run.Tie as tie
+use Rattle.runs.proofs.copy_run.Statement.{statement}
+use Rattle.runs.proofs.copy_run.Tie as tie
 
 copy-eights-requires : tie.Need-copy-eights-requires
 copy-eights-requires c κs = search needs

@@ -1,10 +1,10 @@
 -- Eight stores are one paste.
 use native.Mathlib.Omega.{arith}
 use lib.ListN.{length-set}
-use Rattle.byterun.proofs.Runs.{eight-copied}
+use Rattle.runs.proofs.Runs.{eight-copied}
 use borrow.Author.Needs.{needs}
-use Rattle.byterun.proofs.copy_eight.Statement.{statement}
-use Rattle.byterun.proofs.copy_eight.Tie as tie
+use Rattle.runs.proofs.copy_eight.Statement.{statement}
+use Rattle.runs.proofs.copy_eight.Tie as tie
 
 shared-slice-read-a : tie.Need-shared-slice-read-a
 shared-slice-read-a c = search needs

@@ -1,8 +1,8 @@
 -- `write_row` meets its contract: the test of the compression picks the row.
 use Rattle.byterun.specs.Laws.{row-plain, row-packed}
 use borrow.Author.Needs.{needs}
-use Rattle.byterun.proofs.write_row.Statement.{statement}
-use Rattle.byterun.proofs.write_row.Tie as tie
+use Rattle.unpack.proofs.write_row.Statement.{statement}
+use Rattle.unpack.proofs.write_row.Tie as tie
 
 write-plain-requires : tie.Need-write-plain-requires
 write-plain-requires c κs = rw (row-plain _ _ _ _ (c .before .if1 .taken)) at (c .before .before .before .before .pre)
