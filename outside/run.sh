@@ -1,5 +1,5 @@
 #!/bin/sh
-# The library beside other programs. Needs Debian's netpbm and ffmpeg, and target/staticlib/libflorinhado.a.
+# The library beside other programs. Needs Debian's netpbm and ffmpeg, and target/staticlib/libflorinhado.a (./library).
 # Remakes the files of outside/files, reads them, then has ilbmtoppm and ffmpeg read pictures that the library writes.
 set -eu
 cd "$(dirname "$0")/.."

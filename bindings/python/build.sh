@@ -4,7 +4,7 @@ set -eu
 cd "$(dirname "$0")/../.."
 archive=target/staticlib/libflorinhado.a
 if [ ! -f "$archive" ]; then
-    echo "$archive is missing: run ./test (or rt staticlib florinhado) first" >&2
+    echo "$archive is missing: run ./test (or ./library) first" >&2
     exit 1
 fi
 mkdir -p target/python

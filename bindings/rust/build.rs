@@ -1,4 +1,4 @@
-//! Links the archive that `rt staticlib florinhado` writes.
+//! Links the archive that `./library` makes in the repository's root.
 
 use std::path::Path;
 
@@ -10,7 +10,7 @@ fn main() {
     println!("cargo:rerun-if-changed={}", archive.display());
     if !archive.is_file() {
         let missing = "target/staticlib/libflorinhado.a is missing";
-        let remedy = "run ./test (or rt staticlib florinhado) in the repository's root first";
+        let remedy = "run ./test (or ./library) in the repository's root first";
         eprintln!("{missing}: {remedy}");
         std::process::exit(1);
     }

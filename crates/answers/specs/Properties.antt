@@ -1,10 +1,8 @@
--- The numbers told of a kind and of a picture's properties; "any other number told beside it is 0".
+-- The numbers told of a picture's properties; "any other number told beside it is 0".
 use Prim.Native.Nat.{ℕ, _+_}
 use mathlib.Core.List.{List}
 use lib.IntN.{pos}
 use lib.ListN.{length}
-use Rattle.name.specs.declared.Kind.{Kind}
-use Rattle.name.specs.declared.Kind.the-variants.{FORM, LIST, CAT, PROP, FILLER, LOCAL}
 use Rattle.ilbm.specs.declared.Origin.{Origin}
 use Rattle.ilbm.specs.declared.Origin.the-variants.{Own, Shared, Absent}
 use Rattle.ilbm.specs.declared.BitmapHeader.{BitmapHeader}
@@ -24,15 +22,6 @@ use Rattle.answers.specs.declared.DestinationTold.{DestinationTold}
 use Rattle.answers.specs.declared.SpriteTold.{SpriteTold}
 use Rattle.answers.specs.declared.ViewModeTold.{ViewModeTold}
 use Rattle.answers.specs.declared.PaletteParts.{PaletteParts}
-
--- the kinds of a listing: FORM 1, LIST 2, CAT 3, PROP 4, local 5, filler 6
-abbrev pub kindNumber : Kind → ℕ
-kindNumber FORM = 1
-kindNumber LIST = 2
-kindNumber CAT = 3
-kindNumber PROP = 4
-kindNumber LOCAL = 5
-kindNumber FILLER = 6
 
 -- "Each property is told with its origin: own, shared with the place of the PROP, or absent": 1, 2 or 0, and the place, 0 unless shared
 abbrev pub originNumber : Origin → ℕ

@@ -1,28 +1,14 @@
-// Each answer as the numbers that the exported calls tell of it.
+// Each answer on a picture's properties as the numbers that the exported calls tell of it.
 use ilbm::BitmapHeader;
 use ilbm::Destination;
 use ilbm::HotSpot;
 use ilbm::Origin;
 use ilbm::PictureAnswer;
 use members::Part;
-use name::Kind;
 use view::View;
 ghost use mathlib.Core.Path.{_≡_};
 ghost use Rattle.members.specs.Members.{fromOf};
-ghost use Rattle.answers.specs.Properties.{originNumber, sharedPlace, headerTold, grabTold, destinationTold, spriteTold, viewModeTold, toOf, paletteParts, kindNumber};
-
-pub fn kind_number(k: Kind) -> usize
-    ensures { λ r. ⌜ r ≡ kindNumber k ⌝ }
-{
-    match k {
-        Kind::FORM => 1,
-        Kind::LIST => 2,
-        Kind::CAT => 3,
-        Kind::PROP => 4,
-        Kind::LOCAL => 5,
-        Kind::FILLER => 6,
-    }
-}
+ghost use Rattle.answers.specs.Properties.{originNumber, sharedPlace, headerTold, grabTold, destinationTold, spriteTold, viewModeTold, toOf, paletteParts};
 
 pub fn origin_number(o: Origin) -> usize
     ensures { λ r. ⌜ r ≡ originNumber o ⌝ }

@@ -1,0 +1,26 @@
+-- Each way through the code takes the same branch of the definition.
+use Rattle.chunk_calls.proofs.Told.{check-accepted, check-refused}
+use borrow.Author.Needs.{needs}
+use Rattle.chunk_calls.proofs.iff_check.Statement.{statement}
+use Rattle.chunk_calls.proofs.iff_check.Tie as tie
+use Rattle.chunk_calls.proofs.iff_check.Reads as reads
+use Rattle.chunk_calls.proofs.iff_check.Lts as lts
+use Rattle.tree.proofs.check.Reads as check-reads
+
+check-requires : tie.Need-check-requires
+check-requires c κs = search needs
+
+enum-known-v : tie.Need-enum-known-v
+enum-known-v c = search needs
+
+enum-known-v-2 : tie.Need-enum-known-v-2
+enum-known-v-2 c = search needs
+
+returns : tie.Need-returns
+returns c = search (check-accepted, needs)
+
+returns-2 : tie.Need-returns-2
+returns-2 c = search (check-refused, needs)
+
+pub iff-check-spec : {M : Type 1} → statement M
+iff-check-spec = tie.close (tie.spec check-requires enum-known-v enum-known-v-2 returns returns-2)

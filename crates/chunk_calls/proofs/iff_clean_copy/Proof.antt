@@ -1,0 +1,41 @@
+-- Each way through the code takes the same branch of the definition.
+use Rattle.chunk_calls.proofs.Told.{copy-written, copy-refused}
+use borrow.Author.Needs.{needs}
+use Rattle.chunk_calls.proofs.iff_clean_copy.Statement.{statement}
+use Rattle.chunk_calls.proofs.iff_clean_copy.Tie as tie
+use Rattle.chunk_calls.proofs.iff_clean_copy.Reads as reads
+use Rattle.chunk_calls.proofs.iff_clean_copy.Lts as lts
+use Rattle.copy.proofs.clean_copy.Reads as clean-copy-reads
+
+clean-copy-requires : tie.Need-clean-copy-requires
+clean-copy-requires c κs = search needs
+
+enum-known-v : tie.Need-enum-known-v
+enum-known-v c = search needs
+
+enum-known-v-2 : tie.Need-enum-known-v-2
+enum-known-v-2 c = search needs
+
+same-length : tie.Need-same-length
+same-length c = search needs
+
+returns : tie.Need-returns
+returns c = search (copy-written, needs)
+
+same-length-2 : tie.Need-same-length-2
+same-length-2 c = search needs
+
+returns-2 : tie.Need-returns-2
+returns-2 c = search (copy-refused, needs)
+
+pub iff-clean-copy-spec : {M : Type 1} → statement M
+iff-clean-copy-spec =
+    tie.close
+    (tie.spec
+    clean-copy-requires
+    enum-known-v
+    enum-known-v-2
+    same-length
+    returns
+    same-length-2
+    returns-2)

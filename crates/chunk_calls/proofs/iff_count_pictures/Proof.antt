@@ -1,0 +1,27 @@
+-- Each way through the code takes the same branch of the definition.
+use Rattle.chunk_calls.proofs.Told.{pictures-counted, count-refused}
+use borrow.Author.Needs.{needs}
+use Rattle.chunk_calls.proofs.iff_count_pictures.Statement.{statement}
+use Rattle.chunk_calls.proofs.iff_count_pictures.Tie as tie
+use Rattle.chunk_calls.proofs.iff_count_pictures.Reads as reads
+use Rattle.chunk_calls.proofs.iff_count_pictures.Lts as lts
+use Rattle.count.proofs.count_pictures.Reads as count-pictures-reads
+
+count-pictures-requires : tie.Need-count-pictures-requires
+count-pictures-requires c κs = search needs
+
+enum-known-v : tie.Need-enum-known-v
+enum-known-v c = search needs
+
+enum-known-v-2 : tie.Need-enum-known-v-2
+enum-known-v-2 c = search needs
+
+returns : tie.Need-returns
+returns c = search (pictures-counted, needs)
+
+returns-2 : tie.Need-returns-2
+returns-2 c = search (count-refused, needs)
+
+pub iff-count-pictures-spec : {M : Type 1} → statement M
+iff-count-pictures-spec =
+    tie.close (tie.spec count-pictures-requires enum-known-v enum-known-v-2 returns returns-2)

@@ -1,0 +1,27 @@
+-- Each way through the code takes the same branch of the definition.
+use Rattle.chunk_calls.proofs.Told.{data-lies, data-refused}
+use borrow.Author.Needs.{needs}
+use Rattle.chunk_calls.proofs.iff_data.Statement.{statement}
+use Rattle.chunk_calls.proofs.iff_data.Tie as tie
+use Rattle.chunk_calls.proofs.iff_data.Reads as reads
+use Rattle.chunk_calls.proofs.iff_data.Lts as lts
+use Rattle.listing.proofs.data_extent.Reads as data-extent-reads
+
+data-extent-requires : tie.Need-data-extent-requires
+data-extent-requires c κs = search needs
+
+enum-known-v : tie.Need-enum-known-v
+enum-known-v c = search needs
+
+enum-known-v-2 : tie.Need-enum-known-v-2
+enum-known-v-2 c = search needs
+
+returns : tie.Need-returns
+returns c = search (data-lies, needs)
+
+returns-2 : tie.Need-returns-2
+returns-2 c = search (data-refused, needs)
+
+pub iff-data-spec : {M : Type 1} → statement M
+iff-data-spec =
+    tie.close (tie.spec data-extent-requires enum-known-v enum-known-v-2 returns returns-2)

@@ -1,0 +1,38 @@
+-- Each way through the code takes the same branch of the definition.
+use Rattle.chunk_calls.proofs.Told.{record-listed, record-refused}
+use borrow.Author.Needs.{needs}
+use Rattle.chunk_calls.proofs.iff_record.Statement.{statement}
+use Rattle.chunk_calls.proofs.iff_record.Tie as tie
+use Rattle.chunk_calls.proofs.iff_record.Reads as reads
+use Rattle.chunk_calls.proofs.iff_record.Lts as lts
+use Rattle.told.proofs.kind_number.Reads as kind-number-reads
+use Rattle.listing.proofs.record_by_number.Reads as record-by-number-reads
+
+record-by-number-requires : tie.Need-record-by-number-requires
+record-by-number-requires c κs = search needs
+
+enum-known-v : tie.Need-enum-known-v
+enum-known-v c = search needs
+
+kind-number-requires : tie.Need-kind-number-requires
+kind-number-requires c κs = search needs
+
+enum-known-v-2 : tie.Need-enum-known-v-2
+enum-known-v-2 c = search needs
+
+returns : tie.Need-returns
+returns c = search (record-listed, needs)
+
+returns-2 : tie.Need-returns-2
+returns-2 c = search (record-refused, needs)
+
+pub iff-record-spec : {M : Type 1} → statement M
+iff-record-spec =
+    tie.close
+    (tie.spec
+    record-by-number-requires
+    enum-known-v
+    kind-number-requires
+    enum-known-v-2
+    returns
+    returns-2)

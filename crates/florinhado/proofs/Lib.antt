@@ -1,3 +1,0 @@
-pub mod Told
-pub mod RowsTold
-pub mod WritingTold

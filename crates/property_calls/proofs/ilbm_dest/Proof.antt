@@ -1,0 +1,21 @@
+-- What is stored is what `destination_told` tells of the answer of `picture`.
+use borrow.Author.Needs.{needs}
+use Rattle.answers.proofs.Properties.{destination-of}
+use Rattle.property_calls.proofs.ilbm_dest.Statement.{statement}
+use Rattle.property_calls.proofs.ilbm_dest.Tie as tie
+use Rattle.property_calls.proofs.ilbm_dest.Reads as reads
+use Rattle.property_calls.proofs.ilbm_dest.Lts as lts
+use Rattle.answers.proofs.destination_told.Reads as destination-told-reads
+use Rattle.picture.proofs.picture.Reads as picture-reads
+
+picture-requires : tie.Need-picture-requires
+picture-requires c κs = search needs
+
+destination-told-requires : tie.Need-destination-told-requires
+destination-told-requires c κs = search needs
+
+returns : tie.Need-returns
+returns c = search (destination-of, needs)
+
+pub ilbm-dest-spec : {M : Type 1} → statement M
+ilbm-dest-spec = tie.close (tie.spec picture-requires destination-told-requires returns)

@@ -1,0 +1,26 @@
+-- What is stored is what `header_told` tells of the answer of `picture`; the signed fields go through bits, and fit.
+use borrow.Author.Needs.{needs}
+use Rattle.answers.proofs.Properties.{header-stored}
+use Rattle.property_calls.proofs.ilbm_header.Statement.{statement}
+use Rattle.property_calls.proofs.ilbm_header.Tie as tie
+use Rattle.property_calls.proofs.ilbm_header.Reads as reads
+use Rattle.property_calls.proofs.ilbm_header.Lts as lts
+use Rattle.answers.proofs.header_told.Reads as header-told-reads
+use Rattle.picture.proofs.picture.Reads as picture-reads
+
+picture-requires : tie.Need-picture-requires
+picture-requires c κs = search needs
+
+header-told-requires : tie.Need-header-told-requires
+header-told-requires c κs = search needs
+
+returns : tie.Need-returns
+returns c =
+    let told = c .before .before .before .before .before in
+    let g = c .struct-told4 .given in
+    header-stored _ _ (told .before .picture .ensures) _ (told .header-told .ensures) (record { sfits = g .1 .1 .0 .1 }) (record { sfits = g .1 .1 .1 .0 .1 })
+    (record { sfits = g .1 .1 .1 .1 .1 .1 .1 .1 .1 .1 .1 .0 .1 })
+    (record { sfits = g .1 .1 .1 .1 .1 .1 .1 .1 .1 .1 .1 .1 .0 .1 })
+
+pub ilbm-header-spec : {M : Type 1} → statement M
+ilbm-header-spec = tie.close (tie.spec picture-requires header-told-requires returns)

@@ -1,0 +1,41 @@
+-- By the cases of the answer of `whole_frame`, which settles the bytes that were lent.
+use Rattle.raster_calls.proofs.Told.{frame-left, frame-refused}
+use borrow.Author.Needs.{needs}
+use Rattle.raster_calls.proofs.ilbm_frame.Statement.{statement}
+use Rattle.raster_calls.proofs.ilbm_frame.Tie as tie
+use Rattle.raster_calls.proofs.ilbm_frame.Reads as reads
+use Rattle.raster_calls.proofs.ilbm_frame.Lts as lts
+use Rattle.rows.proofs.whole_frame.Reads as whole-frame-reads
+
+whole-frame-requires : tie.Need-whole-frame-requires
+whole-frame-requires c κs = search needs
+
+enum-known-v : tie.Need-enum-known-v
+enum-known-v c = search needs
+
+enum-known-v-2 : tie.Need-enum-known-v-2
+enum-known-v-2 c = search needs
+
+same-length : tie.Need-same-length
+same-length c = search needs
+
+returns : tie.Need-returns
+returns c = search (frame-left, needs)
+
+same-length-2 : tie.Need-same-length-2
+same-length-2 c = search needs
+
+returns-2 : tie.Need-returns-2
+returns-2 c = search (frame-refused, needs)
+
+pub ilbm-frame-spec : {M : Type 1} → statement M
+ilbm-frame-spec =
+    tie.close
+    (tie.spec
+    whole-frame-requires
+    enum-known-v
+    enum-known-v-2
+    same-length
+    returns
+    same-length-2
+    returns-2)

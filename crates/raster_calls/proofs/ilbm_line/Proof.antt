@@ -1,0 +1,41 @@
+-- By the cases of the answer of `scan_line`, which settles the bytes that were lent.
+use Rattle.raster_calls.proofs.Told.{line-next, line-refused}
+use borrow.Author.Needs.{needs}
+use Rattle.raster_calls.proofs.ilbm_line.Statement.{statement}
+use Rattle.raster_calls.proofs.ilbm_line.Tie as tie
+use Rattle.raster_calls.proofs.ilbm_line.Reads as reads
+use Rattle.raster_calls.proofs.ilbm_line.Lts as lts
+use Rattle.rows.proofs.scan_line.Reads as scan-line-reads
+
+scan-line-requires : tie.Need-scan-line-requires
+scan-line-requires c κs = search needs
+
+enum-known-v : tie.Need-enum-known-v
+enum-known-v c = search needs
+
+enum-known-v-2 : tie.Need-enum-known-v-2
+enum-known-v-2 c = search needs
+
+same-length : tie.Need-same-length
+same-length c = search needs
+
+returns : tie.Need-returns
+returns c = search (line-next, needs)
+
+same-length-2 : tie.Need-same-length-2
+same-length-2 c = search needs
+
+returns-2 : tie.Need-returns-2
+returns-2 c = search (line-refused, needs)
+
+pub ilbm-line-spec : {M : Type 1} → statement M
+ilbm-line-spec =
+    tie.close
+    (tie.spec
+    scan-line-requires
+    enum-known-v
+    enum-known-v-2
+    same-length
+    returns
+    same-length-2
+    returns-2)

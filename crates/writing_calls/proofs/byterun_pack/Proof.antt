@@ -1,0 +1,53 @@
+-- By the cases of the answer of `pack_row`, which settles the buffer.
+use borrow.Author.Needs.{needs}
+use Rattle.writing_calls.proofs.Told.{pack-written, pack-bad-length, pack-no-room}
+use Rattle.writing_calls.proofs.byterun_pack.Statement.{statement}
+use Rattle.writing_calls.proofs.byterun_pack.Tie as tie
+use Rattle.writing_calls.proofs.byterun_pack.Reads as reads
+use Rattle.writing_calls.proofs.byterun_pack.Lts as lts
+use Rattle.pack.proofs.pack_row.Reads as pack-row-reads
+
+pack-row-requires : tie.Need-pack-row-requires
+pack-row-requires c κs = search needs
+
+enum-known-v : tie.Need-enum-known-v
+enum-known-v c = search needs
+
+enum-told : tie.Need-enum-told
+enum-told c = search needs
+
+enum-told-2 : tie.Need-enum-told-2
+enum-told-2 c = search needs
+
+same-length : tie.Need-same-length
+same-length c = search needs
+
+returns : tie.Need-returns
+returns c = search (pack-written, needs)
+
+same-length-2 : tie.Need-same-length-2
+same-length-2 c = search needs
+
+returns-2 : tie.Need-returns-2
+returns-2 c = search (pack-bad-length, needs)
+
+same-length-3 : tie.Need-same-length-3
+same-length-3 c = search needs
+
+returns-3 : tie.Need-returns-3
+returns-3 c = search (pack-no-room, needs)
+
+pub byterun-pack-spec : {M : Type 1} → statement M
+byterun-pack-spec =
+    tie.close
+    (tie.spec
+    pack-row-requires
+    enum-known-v
+    enum-told
+    enum-told-2
+    same-length
+    returns
+    same-length-2
+    returns-2
+    same-length-3
+    returns-3)
