@@ -10,11 +10,11 @@ use native.Mathlib.Nat.{zero-mul, suc-mul, add-mul, one-mul, mul-comm, mul-le-mu
 use native.Mathlib.Omega.{arith}
 use Rattle.ilbm.specs.Rows.{rowLength, Read, read, fault, thenRead, rowRead, rowsFrom, coloursFrom, written}
 use Rattle.byterun.specs.ByteRun.{rowOf}
+use Rattle.gather.proofs.Colours.{row-room}
 use Rattle.scan.specs.Scan.{told, IsRead, lineBy, linesBy}
 use Rattle.scan.specs.declared.Scanned.{Scanned}
 use Rattle.scan.specs.declared.Scanned.the-variants.{Next, Fault}
 use Rattle.scan.proofs.Judging.{onward, told-onward, told-next, told-read, told-fault}
-use Rattle.scan.proofs.Writing.{row-room}
 
 -- a + b rows are a rows, and then b
 rows-add :

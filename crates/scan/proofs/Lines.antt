@@ -8,7 +8,8 @@ use native.Mathlib.Nat.{mul-le-mul-right}
 use native.Mathlib.Omega.{arith}
 use Rattle.name.specs.Name.{pick}
 use Rattle.ilbm.specs.Rows.{rowLength, Read, read, fault, thenRead, rowsFrom, coloursFrom, written}
-use Rattle.scan.specs.Scan.{told, IsRead, rowsIn, lineBy}
+use Rattle.gather.specs.Buffer.{rowsIn}
+use Rattle.scan.specs.Scan.{told, IsRead, lineBy}
 use Rattle.scan.proofs.Judging.{told-next, told-read, told-fault}
 use Rattle.scan.specs.declared.Scanned.{Scanned}
 use Rattle.scan.specs.declared.Scanned.the-variants.{Next, Fault}

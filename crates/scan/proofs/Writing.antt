@@ -6,17 +6,14 @@ use lib.ListN.{length, take, drop, length-drop, take-append-drop}
 use lib.Seq.{take-append-le, drop-append-le, take-at, drop-at, length-take-le}
 use mir.Syntax.{w64}
 use mir.Val.{Fits}
-use native.Mathlib.Nat.{suc-mul, mul-le-mul-right}
 use native.Mathlib.Numerals.{add-one}
 use native.Mathlib.Omega.{arith}
 use Rattle.byterun.specs.ByteRun.{Row, filled, over, short, rowOf, IsFull}
 use Rattle.ilbm.specs.Rows.{Read, read, fault, thenRead, rowRead, rowsFrom}
-use Rattle.scan.specs.Scan.{IsRead, rowsIn}
+use Rattle.gather.specs.Buffer.{rowsIn}
+use Rattle.gather.proofs.Colours.{row-room}
+use Rattle.scan.specs.Scan.{IsRead}
 use Rattle.scan.proofs.Judging.{onward, rows-once, rows-none}
-
--- row k lies before row m
-pub row-room : (k m n : ℕ) → k < m → k * n + n ≤ m * n
-row-room k m n h = omega (arith, suc-mul k n, mul-le-mul-right {m = suc k} {n = m} n h)
 
 -- what lies inside the first of two lists is found there
 part-left : (n j : ℕ) (xs ys : List ℕ) → j + n ≤ length xs → take n (drop j (xs ++ ys)) ≡ take n (drop j xs)

@@ -1,8 +1,8 @@
 -- Scan line and frame over numbers instead of a header, and what is told of them.
-use Prim.Native.Nat.{ℕ, zero, suc, _*_}
+use Prim.Native.Nat.{ℕ, zero, suc}
 use mathlib.Core.Path.{_≡_, refl}
-use mathlib.Core.List.{List, [], _∷_, _++_}
-use lib.ListN.{take, drop}
+use mathlib.Core.List.{List, [], _++_}
+use lib.ListN.{take}
 use Rattle.ilbm.specs.Rows.{rowLength, rowsInLine, Read, read, fault, thenRead, rowsFrom, coloursFrom, lineFrom, linesFrom}
 use Rattle.ilbm.specs.declared.BitmapHeader.{BitmapHeader}
 use Rattle.scan.specs.declared.Scanned.{Scanned}
@@ -17,11 +17,6 @@ told (fault k p) = Fault k p
 abbrev pub IsRead : {A : Type 0} → Read A → Type 0
 IsRead (read a q) = Unit {0}
 IsRead (fault k p) = ⊥
-
--- m rows of n bytes, one after the other, from row k on
-unfoldable pub rowsIn : ℕ → ℕ → ℕ → List ℕ → List (List ℕ)
-rowsIn n zero k buffer = []
-rowsIn n (suc m) k buffer = take n (drop (k * n) buffer) ∷ rowsIn n m (suc k) buffer
 
 -- a scan line of so many rows
 abbrev pub lineBy : ℕ → ℕ → ℕ → ℕ → List ℕ → ℕ → Read (List ℕ)

@@ -1,8 +1,8 @@
 -- `spread` meets its contract: one computed test over all bytes.
 use borrow.Author.Needs.{needs}
-use Rattle.scan.proofs.Eights.{spread-is, spread-fits}
-use Rattle.scan.proofs.spread.Statement.{statement}
-use Rattle.scan.proofs.spread.Tie as tie
+use Rattle.gather.proofs.Eights.{spread-is, spread-fits}
+use Rattle.gather.proofs.spread.Statement.{statement}
+use Rattle.gather.proofs.spread.Tie as tie
 
 wide-requires : tie.Need-wide-requires
 wide-requires c κs = search needs

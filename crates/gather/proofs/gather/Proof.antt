@@ -4,10 +4,10 @@ use mathlib.Core.Path.{_≡_}
 use native.Mathlib.Omega.{arith}
 use lib.ListN.{length}
 use borrow.Author.Needs.{needs}
-use Rattle.scan.specs.Scan.{rowsIn}
-use Rattle.scan.proofs.Colours.{Gathered, gathering, gathered-end}
-use Rattle.scan.proofs.gather.Statement.{statement}
-use Rattle.scan.proofs.gather.Tie as tie
+use Rattle.gather.specs.Buffer.{rowsIn}
+use Rattle.gather.proofs.Colours.{Gathered, gathering, gathered-end}
+use Rattle.gather.proofs.gather.Statement.{statement}
+use Rattle.gather.proofs.gather.Tie as tie
 
 abbrev Inv-loop : tie.InvT-loop
 Inv-loop buffer n planes row₀ x₀ row x =

@@ -3,8 +3,8 @@ use native.Mathlib.Omega.{arith}
 use lib.ListN.{length-set}
 use borrow.Author.Needs.{needs}
 use Rattle.runs.proofs.Runs.{pasted-eight}
-use Rattle.scan.proofs.put_eight.Statement.{statement}
-use Rattle.scan.proofs.put_eight.Tie as tie
+use Rattle.gather.proofs.put_eight.Statement.{statement}
+use Rattle.gather.proofs.put_eight.Tie as tie
 
 cast-a : tie.Need-cast-a
 cast-a c = search needs

@@ -5,11 +5,11 @@ use mathlib.Core.Path.{_≡_}
 use native.Mathlib.Omega.{arith}
 use lib.ListN.{length}
 use borrow.Author.Needs.{needs}
-use Rattle.scan.specs.Scan.{rowsIn}
-use Rattle.scan.proofs.Colours.{Gathered, gathering}
-use Rattle.scan.proofs.Eights.{eights}
-use Rattle.scan.proofs.gather_bytes.Statement.{statement}
-use Rattle.scan.proofs.gather_bytes.Tie as tie
+use Rattle.gather.specs.Buffer.{rowsIn}
+use Rattle.gather.proofs.Colours.{Gathered, gathering}
+use Rattle.gather.proofs.Eights.{eights}
+use Rattle.gather.proofs.gather_bytes.Statement.{statement}
+use Rattle.gather.proofs.gather_bytes.Tie as tie
 
 abbrev Inv-loop : tie.InvT-loop
 Inv-loop buffer n planes row₀ bytes j₀ row j =

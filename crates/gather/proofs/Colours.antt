@@ -7,12 +7,15 @@ use lib.Pow.{pow-mono}
 use lib.Seq.{getD-take, getD-drop, take-suc-set, take-all}
 use mir.Syntax.{w64}
 use mir.Val.{Fits}
-use native.Mathlib.Nat.{mul-assoc, pow-suc, mod-lt}
+use native.Mathlib.Nat.{mul-assoc, suc-mul, mul-le-mul-right, pow-suc, mod-lt}
 use native.Mathlib.Numerals.{add-one}
 use native.Mathlib.Omega.{arith}
 use Rattle.ilbm.specs.Rows.{bitAt, colourBy, coloursFrom}
-use Rattle.scan.specs.Scan.{rowsIn}
-use Rattle.scan.proofs.Writing.{row-room}
+use Rattle.gather.specs.Buffer.{rowsIn}
+
+-- row k lies before row m
+pub row-room : (k m n : ℕ) → k < m → k * n + n ≤ m * n
+row-room k m n h = omega (arith, suc-mul k n, mul-le-mul-right {m = suc k} {n = m} n h)
 
 -- twice the weight, twice the colour
 colour-twice : (weight x : ℕ) (rows : List (List ℕ)) → colourBy (weight * 2) x rows ≡ 2 * colourBy weight x rows

@@ -13,9 +13,9 @@ use borrow.Author.Tests.{ltb-true, ltb-false, eqb-true}
 use native.Mathlib.Omega.{arith}
 use Rattle.name.specs.Name.{pick}
 use Rattle.ilbm.specs.Rows.{bitAt, colourBy, coloursFrom}
-use Rattle.scan.specs.Scan.{rowsIn}
-use Rattle.scan.specs.Spread.{eight, spreadOf, bytesOf}
-use Rattle.scan.proofs.Colours.{colour-front, row-bit, colour-byte, Gathered}
+use Rattle.gather.specs.Buffer.{rowsIn}
+use Rattle.gather.specs.Spread.{eight, spreadOf, bytesOf}
+use Rattle.gather.proofs.Colours.{colour-front, row-bit, colour-byte, Gathered}
 
 -- ---- a byte spread
 
@@ -116,8 +116,6 @@ module _ (buffer : List ℕ) (n planes byte : ℕ) (h : planes ≤ 8) where
         let u = eighted-small (k - 1) in
         let w = sum b (spreadOf b) z l m refl refl in
         omega arith
-
-pub ruleset eighting = (eighted-start, eighted-more, eighted-end, eighted-fits, eighted-double)
 
 -- ---- the row
 

@@ -1,9 +1,9 @@
 -- `colour_at` meets its contract. The loop's invariant: colour is the colour number of the planes from k on; the measure is k.
 use Prim.Native.Nat.{_≤_}
 use borrow.Author.Needs.{needs}
-use Rattle.scan.proofs.Colours.{Coloured, colouring}
-use Rattle.scan.proofs.colour_at.Statement.{statement}
-use Rattle.scan.proofs.colour_at.Tie as tie
+use Rattle.gather.proofs.Colours.{Coloured, colouring}
+use Rattle.gather.proofs.colour_at.Statement.{statement}
+use Rattle.gather.proofs.colour_at.Tie as tie
 
 abbrev Inv-loop : tie.InvT-loop
 Inv-loop buffer n planes x byte place colour₀ k₀ colour k = (k ≤ planes) × Coloured buffer n planes x k colour
