@@ -72,7 +72,7 @@ pub extern "C" fn iff_record(
       size = now (size .exit);
     } ≡ recordTold (recordOf (now (file .entry)) number) ⌝ }
 {
-    let v = listing::record_by_number(file, number);
+    let v = lookup::record_by_number(file, number);
     match v {
         Listed::Chunk(r) => {
             let k = r.kind;
@@ -111,7 +111,7 @@ pub extern "C" fn iff_data(
     ensures { λ r. ⌜ record { number = r; place = now (place .exit); from = now (from .exit); to = now (to .exit) }
         ≡ dataTold (extentOf (now (file .entry)) number) ⌝ }
 {
-    let v = listing::data_extent(file, number);
+    let v = lookup::data_extent(file, number);
     match v {
         Extent::Data { from: a, to: b } => {
             *place = 0;

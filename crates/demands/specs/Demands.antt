@@ -12,8 +12,7 @@ use Rattle.grammar.specs.Grammar.{ChunkFile}
 use Rattle.grammar.specs.Accept as Accept
 use Rattle.listing.specs.declared.Record.{Record}
 use Rattle.listing.specs.declared.Listed.the-variants.{Refused as Listed-refused}
-use Rattle.listing.specs.Records.{recordOf}
-use Rattle.listing.specs.Cursors.{countOf}
+use Rattle.listing.specs.Records.{recordOf, countOf}
 use Rattle.table.specs.Table.{answerOf}
 use Rattle.reader.specs.declared.Step.the-variants.{End}
 use Rattle.reader.specs.Reading.{stepAt}

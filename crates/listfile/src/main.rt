@@ -7,7 +7,8 @@ ghost use mathlib.Core.Path.{_≡_};
 ghost use mathlib.Core.List.{_++_};
 ghost use Prim.Native.Nat.{_+_, _≤_};
 ghost use lib.ListN.{length, take};
-ghost use Rattle.listing.specs.Cursors.{countOf, firstCursor, Located};
+ghost use Rattle.listing.specs.Records.{countOf};
+ghost use Rattle.cursor.specs.Cursors.{firstCursor, Located};
 ghost use Rattle.listfile.specs.Pictures.{oneIf, isPicture, picturesOf};
 
 // The longest file that is listed.
@@ -42,10 +43,10 @@ fn pictures(s: &[u8], chunks: usize) -> usize
     ensures { λ r. ⌜ r ≡ picturesOf (now (s .entry)) ⌝ }
 {
     let mut n = 0;
-    let mut cur = listing::first();
+    let mut cur = cursor::first();
     while cur.number < chunks {
-        n = n + one_if(is_picture(listing::record_at(s, cur)));
-        cur = listing::advance(s, cur);
+        n = n + one_if(is_picture(cursor::record_at(s, cur)));
+        cur = cursor::advance(s, cur);
     }
     n
 }
@@ -145,10 +146,10 @@ fn write_record(r: Record) {
 fn write_records(s: &[u8], chunks: usize)
     requires { ⌜ (Located (now s) firstCursor) × (chunks ≡ countOf (now s)) ⌝ }
 {
-    let mut cur = listing::first();
+    let mut cur = cursor::first();
     while cur.number < chunks {
-        write_record(listing::record_at(s, cur));
-        cur = listing::advance(s, cur);
+        write_record(cursor::record_at(s, cur));
+        cur = cursor::advance(s, cur);
     }
 }
 

@@ -1,7 +1,4 @@
 pub mod Records
-pub mod Cursors
-pub mod Steps
-pub mod Walk
+pub mod Counts
 pub mod Contents
 pub mod Data
-pub mod Anywhere

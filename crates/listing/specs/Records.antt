@@ -37,3 +37,11 @@ recordIn (refused k p) i = Refused k p
 -- "one record asked by its number (14 if there is none)"; "1 to 12 come before 13, 14 and 15"
 abbrev pub recordOf : List ℕ → ℕ → Listed
 recordOf s i = recordIn (readFile s) i
+
+-- how many chunks a file has
+abbrev pub countIn : Found Chunk → ℕ
+countIn (found c) = count (before c none)
+countIn (refused k p) = 0
+
+abbrev pub countOf : List ℕ → ℕ
+countOf s = countIn (readFile s)

@@ -2,7 +2,7 @@
 use tree::Verdict;
 ghost use mathlib.Core.Path.{_≡_};
 ghost use Rattle.tree.specs.Judge.{checkOf};
-ghost use Rattle.listing.specs.Cursors.{countOf};
+ghost use Rattle.listing.specs.Records.{countOf};
 ghost use Rattle.table.specs.Table.{roomOf, answerOf, Filled};
 ghost use Rattle.listings.specs.Refusals.{refusalIn};
 

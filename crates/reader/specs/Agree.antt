@@ -16,13 +16,13 @@ use Rattle.tree.specs.declared.Verdict.{Verdict}
 use Rattle.tree.specs.declared.Verdict.the-variants.{Accepted, Refused as Verdict-refused}
 use Rattle.grammar.specs.Words.{Bytes}
 use Rattle.listing.specs.declared.Record.{Record}
-use Rattle.listing.specs.declared.Cursor.{Cursor}
 use Rattle.listing.specs.declared.Listed.the-variants.{Chunk as Listed-chunk, Refused}
-use Rattle.listing.specs.Records.{recordsOf, pickRecord, recordIn, recordOf}
-use Rattle.listing.specs.Cursors.{countIn, countOf, recordAt, Located}
-use Rattle.listing.specs.Steps.{length-records}
-use Rattle.listing.specs.Walk.{located-record, located-place, located-first, refused-record, record-beyond}
-use Rattle.listing.specs.Anywhere.{liesAt, readAt, onwardAt, movedAt, located-lies, located-onward, onward-number}
+use Rattle.listing.specs.Records.{recordsOf, pickRecord, recordIn, recordOf, countIn, countOf}
+use Rattle.listing.specs.Counts.{length-records, refused-record, record-beyond}
+use Rattle.cursor.specs.declared.Cursor.{Cursor}
+use Rattle.cursor.specs.Cursors.{recordAt, Located, onwardAt}
+use Rattle.cursor.specs.Walk.{located-record, located-place, located-first, located-onward, onward-number}
+use Rattle.anywhere.specs.Anywhere.{liesAt, readAt, movedAt, located-lies}
 use Rattle.table.specs.Table.{column, recordsFor}
 use Rattle.reader.specs.declared.Place.{Place}
 use Rattle.reader.specs.declared.Step.the-variants.{Chunk as Step-chunk, End}

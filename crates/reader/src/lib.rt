@@ -1,11 +1,11 @@
 // A reader that holds the lent file and its place in it. Each function over it takes it apart and leaves the work to a function of
 // the slice and the place, which asks nothing of the place: any place gives a record or the end.
-use listing::Cursor;
+use cursor::Cursor;
 use listing::Listed;
 use listing::Record;
 use tree::Verdict;
 ghost use mathlib.Core.Path.{_≡_};
-ghost use Rattle.listing.specs.Cursors.{countOf};
+ghost use Rattle.listing.specs.Records.{countOf};
 ghost use Rattle.reader.specs.Reading.{openingOf, firstPlace, stepAt, placeAfter};
 
 // Where a reader stands: the cursor at the next chunk, with the ends of the groups around it, and how many chunks there are to read.
@@ -50,7 +50,7 @@ pub fn opening_of(s: &[u8]) -> Opening
 pub fn first_place(s: &[u8]) -> Place
     ensures { λ r. ⌜ r ≡ firstPlace (now (s .entry)) ⌝ }
 {
-    let cursor = listing::first();
+    let cursor = cursor::first();
     let v = tree::check(s);
     match v {
         Verdict::Accepted {
@@ -73,7 +73,7 @@ pub fn step_at(s: &[u8], place: Place) -> Step
     if place.chunks <= cur.number {
         return Step::End;
     }
-    let l = listing::read_at(s, cur);
+    let l = anywhere::read_at(s, cur);
     match l {
         Listed::Chunk(r) => Step::Chunk(r),
         Listed::Refused {
@@ -91,7 +91,7 @@ pub fn place_after(s: &[u8], place: Place) -> Place
     if place.chunks <= here.number {
         return place;
     }
-    let there = listing::moved(s, here);
+    let there = anywhere::moved(s, here);
     Place {
         cursor: there,
         chunks: place.chunks,

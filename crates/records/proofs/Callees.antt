@@ -27,17 +27,17 @@ use denote.Triple.Spec.{tripleOf}
 use denote.Triple.Clauses.{ensured, lasts}
 use denote.Triple.Walked.{says}
 use Rattle.listing.specs.declared.Record.{Record}
-use Rattle.listing.specs.declared.Cursor.{Cursor}
 use Rattle.listing.specs.declared.Listed.the-variants.{Chunk as Listed-chunk}
-use Rattle.listing.specs.Records.{recordOf}
-use Rattle.listing.specs.Cursors.{countOf, firstCursor, Located}
+use Rattle.listing.specs.Records.{recordOf, countOf}
+use Rattle.cursor.specs.declared.Cursor.{Cursor}
+use Rattle.cursor.specs.Cursors.{firstCursor, Located}
 use Rattle.listing.proofs.Record as Rec
 use Rattle.listing.proofs.Record.Laws as Rec′
-use Rattle.listing.proofs.Cursor as Cur
-use Rattle.listing.proofs.Cursor.Laws as Cur′
-use Rattle.listing.proofs.first as first
-use Rattle.listing.proofs.record_at as record-at
-use Rattle.listing.proofs.advance as advance
+use Rattle.cursor.proofs.Cursor as Cur
+use Rattle.cursor.proofs.Cursor.Laws as Cur′
+use Rattle.cursor.proofs.first as first
+use Rattle.cursor.proofs.record_at as record-at
+use Rattle.cursor.proofs.advance as advance
 use Rattle.records.proofs.Locals.{R}
 
 module _ {M : Type 1} (𝓤 : URA M) (H : Heap 𝓤) (A : Atoms 𝓤) (mem : Memory → SProp 𝓤) (run : Routine → Fun 𝓤) where

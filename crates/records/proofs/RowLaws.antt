@@ -14,7 +14,7 @@ use Rattle.tree.specs.declared.Verdict.the-variants.{Accepted, Refused as Verdi
 use Rattle.listing.specs.declared.Record.{Record}
 use Rattle.listing.specs.declared.Listed.the-variants.{Chunk as Listed-chunk}
 use Rattle.listing.specs.Records.{recordsOf, pickRecord, recordIn, recordOf}
-use Rattle.listing.specs.Steps.{length-records}
+use Rattle.listing.specs.Counts.{length-records}
 use Rattle.table.specs.Table.{recordsIn, recordsFor, answerOf}
 use Rattle.records.specs.Rows.{placed, toPut, Ready}
 

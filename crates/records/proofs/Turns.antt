@@ -8,13 +8,13 @@ use lib.ListN.{length, set}
 use mir.Val.{Val}
 use denote.Laws.{Is}
 use Rattle.listing.specs.declared.Record.{Record}
-use Rattle.listing.specs.declared.Cursor.{Cursor}
 use Rattle.listing.specs.declared.Listed.the-variants.{Chunk as Listed-chunk}
-use Rattle.listing.specs.Records.{recordOf}
-use Rattle.listing.specs.Cursors.{countOf, firstCursor, Located}
+use Rattle.listing.specs.Records.{recordOf, countOf}
+use Rattle.cursor.specs.declared.Cursor.{Cursor}
+use Rattle.cursor.specs.Cursors.{firstCursor, Located}
 use Rattle.records.specs.Rows.{Ready}
 use Rattle.records.proofs.RowLaws.{partly, placed-length, goes-on, starts}
-use Rattle.listing.proofs.Cursor as Cur
+use Rattle.cursor.proofs.Cursor as Cur
 
 -- Where a turn of the loop begins: the next record's number i, the cursor and its machine value, the table, and how many records are left.
 pub record Turn (s : List ℕ) (n : ℕ) (ys : List Record) : Type 0 where

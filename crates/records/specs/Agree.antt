@@ -13,7 +13,7 @@ use Rattle.tree.specs.declared.Verdict.the-variants.{Accepted, Refused}
 use Rattle.listing.specs.declared.Record.{Record}
 use Rattle.listing.specs.declared.Listed.the-variants.{Chunk as Listed-chunk}
 use Rattle.listing.specs.Records.{recordsOf, pickRecord, recordIn, recordOf}
-use Rattle.listing.specs.Steps.{length-records}
+use Rattle.listing.specs.Counts.{length-records}
 use Rattle.table.specs.Table.{column, recordsFor, answerOf}
 use Rattle.records.specs.Rows.{placed}
 

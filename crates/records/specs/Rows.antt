@@ -5,7 +5,8 @@ use mathlib.Core.List.{List, [], _∷_}
 use Rattle.tree.specs.declared.Verdict.{Verdict}
 use Rattle.tree.specs.declared.Verdict.the-variants.{Accepted, Refused}
 use Rattle.listing.specs.declared.Record.{Record}
-use Rattle.listing.specs.Cursors.{countOf, firstCursor, Located}
+use Rattle.listing.specs.Records.{countOf}
+use Rattle.cursor.specs.Cursors.{firstCursor, Located}
 
 -- A table after records are put into it in order, and what was there behind them.
 unfoldable pub placed : List Record → List Record → List Record

@@ -57,11 +57,11 @@ fn put_records(s: &[u8], table: &mut [Record], n: usize)
     requires { ⌜ (Ready (now s) n) × (n ≤ length (now table)) ⌝ }
     ensures { λ _. ⌜ now (table .exit) ≡ placed (take n (recordsIn (readFile (now (s .entry))))) (now (table .entry)) ⌝ }
 {
-    let mut cur = listing::first();
+    let mut cur = cursor::first();
     let mut i = 0;
     while i < n {
-        table[i] = listing::record_at(s, cur);
-        cur = listing::advance(s, cur);
+        table[i] = cursor::record_at(s, cur);
+        cur = cursor::advance(s, cur);
         i = i + 1;
     }
 }

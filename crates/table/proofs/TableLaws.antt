@@ -13,12 +13,12 @@ use Rattle.tree.specs.declared.Verdict.{Verdict}
 use Rattle.tree.specs.declared.Verdict.the-variants.{Accepted, Refused as Verdict-refused}
 use Rattle.grammar.specs.Words.{Bytes}
 use Rattle.listing.specs.declared.Record.{Record}
-use Rattle.listing.specs.declared.Cursor.{Cursor}
 use Rattle.listing.specs.declared.Listed.the-variants.{Chunk as Listed-chunk, Refused}
-use Rattle.listing.specs.Records.{recordsOf, pickRecord, recordIn, recordOf}
-use Rattle.listing.specs.Cursors.{countOf, firstCursor, Located}
-use Rattle.listing.specs.Steps.{length-records}
-use Rattle.listing.specs.Walk.{located-first}
+use Rattle.listing.specs.Records.{recordsOf, pickRecord, recordIn, recordOf, countOf}
+use Rattle.listing.specs.Counts.{length-records}
+use Rattle.cursor.specs.declared.Cursor.{Cursor}
+use Rattle.cursor.specs.Cursors.{firstCursor, Located}
+use Rattle.cursor.specs.Walk.{located-first}
 use Rattle.table.specs.Table.{column, recordsIn, recordsFor, answerOf}
 
 pub start-located : (s : List ℕ) (r : Cursor) → Located s firstCursor → r ≡ firstCursor → Located s r

@@ -6,7 +6,8 @@ ghost use mathlib.Core.Path.{_≡_};
 ghost use Prim.Native.Nat.{_≤_, _<_, min};
 ghost use lib.ListN.{length, set};
 ghost use Rattle.tree.specs.Judge.{readFile};
-ghost use Rattle.listing.specs.Cursors.{countOf, firstCursor, Located};
+ghost use Rattle.listing.specs.Records.{countOf};
+ghost use Rattle.cursor.specs.Cursors.{firstCursor, Located};
 ghost use Rattle.table.specs.Table.{
   kindNumber,
   numberOf,
@@ -99,12 +100,12 @@ fn put_records(
         × (now (places .exit) ≡ column placeOf (recordsIn (readFile (now (s .entry)))) (now (places .entry)))
         × (now (sizes .exit) ≡ column sizeOf (recordsIn (readFile (now (s .entry)))) (now (sizes .entry))) ⌝ }
 {
-    let mut cur = listing::first();
+    let mut cur = cursor::first();
     while cur.number < chunks {
         let i = cur.number;
-        let r = listing::record_at(s, cur);
+        let r = cursor::record_at(s, cur);
         put_record(numbers, levels, kinds, names, places, sizes, i, r);
-        cur = listing::advance(s, cur);
+        cur = cursor::advance(s, cur);
     }
 }
 

@@ -6,7 +6,7 @@ use Rattle.chunk_calls.proofs.iff_record.Tie as tie
 use Rattle.chunk_calls.proofs.iff_record.Reads as reads
 use Rattle.chunk_calls.proofs.iff_record.Lts as lts
 use Rattle.told.proofs.kind_number.Reads as kind-number-reads
-use Rattle.listing.proofs.record_by_number.Reads as record-by-number-reads
+use Rattle.lookup.proofs.record_by_number.Reads as record-by-number-reads
 
 record-by-number-requires : tie.Need-record-by-number-requires
 record-by-number-requires c κs = search needs

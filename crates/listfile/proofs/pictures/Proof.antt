@@ -3,7 +3,8 @@ use Prim.Native.Nat.{_+_, _-_, _≤_}
 use mathlib.Core.Path.{_≡_}
 use native.Mathlib.Omega.{arith}
 use borrow.Author.Needs.{needs}
-use Rattle.listing.specs.Cursors.{countOf, Located}
+use Rattle.listing.specs.Records.{countOf}
+use Rattle.cursor.specs.Cursors.{Located}
 use Rattle.listfile.specs.Pictures.{picturesOf}
 use Rattle.listfile.proofs.PictureLaws.{left, at-most-one, goes-on, ends, picture-laws}
 use Rattle.listfile.proofs.pictures.Statement.{statement}

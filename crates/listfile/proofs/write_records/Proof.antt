@@ -1,7 +1,7 @@
 -- `write_records` is safe and ends: the cursor is located at each turn, and one record further than before.
 use Prim.Native.Nat.{_-_, _≤_}
 use borrow.Author.Needs.{needs}
-use Rattle.listing.specs.Cursors.{Located}
+use Rattle.cursor.specs.Cursors.{Located}
 use Rattle.listfile.proofs.PictureLaws.{picture-laws}
 use Rattle.listfile.proofs.write_records.Statement.{statement}
 use Rattle.listfile.proofs.write_records.Tie as tie

@@ -2,7 +2,7 @@
 use Prim.Native.Nat.{_-_, _<_}
 use native.Mathlib.Omega.{arith}
 use Rattle.grammar.specs.Words.{Bytes}
-use Rattle.listing.specs.Cursors.{countOf}
+use Rattle.listing.specs.Records.{countOf}
 use borrow.Author.Needs.{needs}
 use Rattle.reader.proofs.ReaderLaws.{Counting, count-laws}
 use Rattle.reader.proofs.count_by_reading.Statement.{statement}

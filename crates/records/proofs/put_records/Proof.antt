@@ -48,28 +48,28 @@ use denote.Triple.Clauses.{ensured}
 use denote.Triple.Walked.{says, needs, Stays, stay-none, stay-none-slice, stay-slice, walkOf, goes-none, goes-none-slice, goes-slice, Walks, ends-at, walked, walk-meets}
 use denote.Exit.{yes}
 use Rattle.listing.specs.declared.Record.{Record}
-use Rattle.listing.specs.declared.Cursor.{Cursor}
 use Rattle.listing.specs.declared.Listed.the-variants.{Chunk as Listed-chunk}
 use Rattle.listing.specs.Records.{recordOf}
-use Rattle.listing.specs.Cursors.{firstCursor, Located}
+use Rattle.cursor.specs.declared.Cursor.{Cursor}
+use Rattle.cursor.specs.Cursors.{firstCursor, Located}
 use Rattle.records.specs.Rows.{Ready}
 use Rattle.records.proofs.RowLaws.{partly}
 use Rattle.listing.proofs.Record as Rec
 use Rattle.listing.proofs.Record.Laws as Rec′
-use Rattle.listing.proofs.Cursor as Cur
-use Rattle.listing.proofs.Cursor.Laws as Cur′
-use Rattle.listing.proofs.first as first
-use Rattle.listing.proofs.first.Symbol as first-def
-use Rattle.listing.proofs.first.Symbol.{name as #listing·first}
-use Rattle.listing.proofs.first.Met as first-thm
-use Rattle.listing.proofs.record_at as record-at
-use Rattle.listing.proofs.record_at.Symbol as record-at-def
-use Rattle.listing.proofs.record_at.Symbol.{name as #listing·record-at}
-use Rattle.listing.proofs.record_at.Met as record-at-thm
-use Rattle.listing.proofs.advance as advance
-use Rattle.listing.proofs.advance.Symbol as advance-def
-use Rattle.listing.proofs.advance.Symbol.{name as #listing·advance}
-use Rattle.listing.proofs.advance.Met as advance-thm
+use Rattle.cursor.proofs.Cursor as Cur
+use Rattle.cursor.proofs.Cursor.Laws as Cur′
+use Rattle.cursor.proofs.first as first
+use Rattle.cursor.proofs.first.Symbol as first-def
+use Rattle.cursor.proofs.first.Symbol.{name as #cursor·first}
+use Rattle.cursor.proofs.first.Met as first-thm
+use Rattle.cursor.proofs.record_at as record-at
+use Rattle.cursor.proofs.record_at.Symbol as record-at-def
+use Rattle.cursor.proofs.record_at.Symbol.{name as #cursor·record-at}
+use Rattle.cursor.proofs.record_at.Met as record-at-thm
+use Rattle.cursor.proofs.advance as advance
+use Rattle.cursor.proofs.advance.Symbol as advance-def
+use Rattle.cursor.proofs.advance.Symbol.{name as #cursor·advance}
+use Rattle.cursor.proofs.advance.Met as advance-thm
 use Rattle.records.proofs.put_records.Key.{name as #records·put-records}
 use Rattle.records.proofs.put_records as f
 use Rattle.records.proofs.put_records.Statement as stated
@@ -138,7 +138,7 @@ module _ {M : Type 1} (𝓤 : URA M) (H : Heap 𝓤) (A : Atoms 𝓤) (W : Given
       nothing ! $ owned ! usize (Is usize) (uint-makes 𝓤 H A W w64) n _ (refl, n-fits) $ fjoin ! $ move ! (1 ∷ 0 ∷ []) $ fjoin ! $ move ! (1 ∷ 0 ∷ []) $ fjoin ! $
       feqI ! (List Val) (vunit ∷ []) (vunit ∷ []) refl $ move ! (1 ∷ 0 ∷ []) $ done !
 
-  module _ (𝓣 : Tables 𝓤 H) (known-record : Triple 𝓤 (𝓣 .C #listing·record-at) (RecordAt 𝓤 H A mem run)) (known-advance : Triple 𝓤 (𝓣 .C #listing·advance) (Advance 𝓤 H A mem run)) (l₀ l₁ l₂ l₃ l₄ l₅ l₆ l₇ l₈ l₉ : ℕ) where
+  module _ (𝓣 : Tables 𝓤 H) (known-record : Triple 𝓤 (𝓣 .C #cursor·record-at) (RecordAt 𝓤 H A mem run)) (known-advance : Triple 𝓤 (𝓣 .C #cursor·advance) (Advance 𝓤 H A mem run)) (l₀ l₁ l₂ l₃ l₄ l₅ l₆ l₇ l₈ l₉ : ℕ) where
     abbrev C : Calls 𝓤 H
     C = 𝓣 .C
 
@@ -272,7 +272,7 @@ module _ {M : Type 1} (𝓤 : URA M) (H : Heap 𝓤) (A : Atoms 𝓤) (W : Given
     sets-out c w e is = begins (start s n ys ready c w e is) refl refl
 
     -- the body, up to the loop
-    calls-first : Triple 𝓤 (C #listing·first) (First 𝓤 H A mem run) → ent 𝓤 (⋆ 𝓤 H A Unset) (Wp 𝓤 H C Λ En body.t-1 (atReturn 𝓤 H En Post))
+    calls-first : Triple 𝓤 (C #cursor·first) (First 𝓤 H A mem run) → ent 𝓤 (⋆ 𝓤 H A Unset) (Wp 𝓤 H C Λ En body.t-1 (atReturn 𝓤 H En Post))
     calls-first known-first =
         qed W Unset ∵ exec ! C Λ En body.t-1 (atRet En Post) $ nothing ! $ use1 W (raw (First 𝓤 H A mem run .pre (to-first 𝓤 H A W mem run))) (goes-first 𝓤 H A W mem run) $
         calls-at ! (fmOf 𝓤 H (W .laws) 𝓣) (First 𝓤 H A mem run) known-first (to-first 𝓤 H A W mem run) (no-more !) (λ w.
@@ -282,7 +282,7 @@ module _ {M : Type 1} (𝓤 : URA M) (H : Heap 𝓤) (A : Atoms 𝓤) (W : Given
         assigns ! (of-opd ! (lit ! tt)) (from ! (stop !)) (init ! 8 refl (tt, record { fits = lit< tt })) $ by ! (sets-out c w e is)))))
 
   -- the function: its locals are made, and its parameters passed
-  walk : (𝓣 : Tables 𝓤 H) → Triple 𝓤 (𝓣 .C #listing·first) (First 𝓤 H A mem run) → Triple 𝓤 (𝓣 .C #listing·record-at) (RecordAt 𝓤 H A mem run) → Triple 𝓤 (𝓣 .C #listing·advance) (Advance 𝓤 H A mem run) → Room u8 (length s)
+  walk : (𝓣 : Tables 𝓤 H) → Triple 𝓤 (𝓣 .C #cursor·first) (First 𝓤 H A mem run) → Triple 𝓤 (𝓣 .C #cursor·record-at) (RecordAt 𝓤 H A mem run) → Triple 𝓤 (𝓣 .C #cursor·advance) (Advance 𝓤 H A mem run) → Room u8 (length s)
       → ent 𝓤 (onEntry 𝓤 H A f.signature (κ, (κ′, tt)) (q, (q′, tt)) a vals) (WpFn 𝓤 H (𝓣 .C) (𝓣 .Λ) spelled (fv ∷ tv ∷ vint w64 n ∷ []) Post)
   walk 𝓣 known-first known-record known-advance file-room =
       qed W ((‵ (flft κ q) ⊛ (‵ (flft κ′ q′) ⊛ ‵ ftrue)) ∷ ‵ (owns (ShrSlice (named 0) κ u8 ∷ MutSlice (named 1) κ′ R ∷ usize ∷ []) a vals) ∷ []) ∵ enter ! (𝓣 .C) (𝓣 .Λ) spelled (fv ∷ tv ∷ vint w64 n ∷ []) _ $
@@ -291,7 +291,7 @@ module _ {M : Type 1} (𝓤 : URA M) (H : Heap 𝓤) (A : Atoms 𝓤) (W : Given
       by ! (calls-first 𝓣 known-record known-advance l₀ l₁ l₂ l₃ l₄ l₅ l₆ l₇ l₈ l₉ known-first)))))))))))
 
 module _ {M : Type 1} (𝓤 : URA M) (H : Heap 𝓤) (A : Atoms 𝓤) (W : Given 𝓤 H A) (mem : Memory → SProp 𝓤) (run : Routine → Fun 𝓤) (𝓣 : Tables 𝓤 H)
-    (known-first : Triple 𝓤 (𝓣 .C #listing·first) (First 𝓤 H A mem run)) (known-record : Triple 𝓤 (𝓣 .C #listing·record-at) (RecordAt 𝓤 H A mem run)) (known-advance : Triple 𝓤 (𝓣 .C #listing·advance) (Advance 𝓤 H A mem run)) where
+    (known-first : Triple 𝓤 (𝓣 .C #cursor·first) (First 𝓤 H A mem run)) (known-record : Triple 𝓤 (𝓣 .C #cursor·record-at) (RecordAt 𝓤 H A mem run)) (known-advance : Triple 𝓤 (𝓣 .C #cursor·advance) (Advance 𝓤 H A mem run)) where
   put-records-walks : Walks 𝓤 H A f.ended stayed (WpFn 𝓤 H (𝓣 .C) (𝓣 .Λ) spelled) (f.clauses 𝓤 H A mem run)
   put-records-walks = walked 𝓤 H A f.ended stayed (f.clauses 𝓤 H A mem run) (WpFn 𝓤 H (𝓣 .C) (𝓣 .Λ) spelled)
       (λ κs. (slice-vals, (slice-vals, (uint-vals w64, tt)))) (λ κs. (shr-slice-tells (named 0) (κs .0) u8, (mut-slice-tells (named 1) (κs .1 .0) R, (uint-tells w64, tt))))
@@ -310,6 +310,6 @@ put-records-spec 𝓤 H 𝓜 𝓖 𝓡 =
     entered 𝓤 H (tripleOf 𝓤 H (𝓖 .A) f.signature (f.spec 𝓤 H (𝓖 .A) (𝓜 .mem) (𝓡 .run)))
     (tables 𝓤 H 𝓜 𝓡 code.env .C) (tables 𝓤 H 𝓜 𝓡 code.env .Λ) #records·put-records code.function (code.unfolded 𝓤 H 𝓜 𝓡)
     (put-records-meets 𝓤 H (𝓖 .A) (givenOf 𝓤 H 𝓜 𝓖) (𝓜 .mem) (𝓡 .run) (tablesOf 𝓤 H 𝓜 (tables 𝓤 H 𝓜 𝓡 code.env))
-    (cited 𝓤 H (First 𝓤 H (𝓖 .A) (𝓜 .mem) (𝓡 .run)) 𝓜 𝓡 code.env #listing·first first-def.routine code.calls-listing·first (first-thm.met 𝓤 H 𝓜 𝓖 𝓡))
-    (cited 𝓤 H (RecordAt 𝓤 H (𝓖 .A) (𝓜 .mem) (𝓡 .run)) 𝓜 𝓡 code.env #listing·record-at record-at-def.routine code.calls-listing·record-at (record-at-thm.met 𝓤 H 𝓜 𝓖 𝓡))
-    (cited 𝓤 H (Advance 𝓤 H (𝓖 .A) (𝓜 .mem) (𝓡 .run)) 𝓜 𝓡 code.env #listing·advance advance-def.routine code.calls-listing·advance (advance-thm.met 𝓤 H 𝓜 𝓖 𝓡)))
+    (cited 𝓤 H (First 𝓤 H (𝓖 .A) (𝓜 .mem) (𝓡 .run)) 𝓜 𝓡 code.env #cursor·first first-def.routine code.calls-cursor·first (first-thm.met 𝓤 H 𝓜 𝓖 𝓡))
+    (cited 𝓤 H (RecordAt 𝓤 H (𝓖 .A) (𝓜 .mem) (𝓡 .run)) 𝓜 𝓡 code.env #cursor·record-at record-at-def.routine code.calls-cursor·record-at (record-at-thm.met 𝓤 H 𝓜 𝓖 𝓡))
+    (cited 𝓤 H (Advance 𝓤 H (𝓖 .A) (𝓜 .mem) (𝓡 .run)) 𝓜 𝓡 code.env #cursor·advance advance-def.routine code.calls-cursor·advance (advance-thm.met 𝓤 H 𝓜 𝓖 𝓡)))

@@ -5,7 +5,8 @@ use mathlib.Core.List.{List}
 use native.Mathlib.Omega.{arith}
 use borrow.Author.Needs.{needs}
 use lib.ListN.{length}
-use Rattle.listing.specs.Cursors.{countOf, Located}
+use Rattle.listing.specs.Records.{countOf}
+use Rattle.cursor.specs.Cursors.{Located}
 use Rattle.table.specs.Table.{numberOf, levelOf, kindNumberOf, nameOf, placeOf, sizeOf}
 use Rattle.table.proofs.TableLaws.{partly, starts, goes-on, ends, same-room, table-laws}
 use Rattle.table.proofs.put_records.Statement.{statement}

@@ -1,4 +1,0 @@
-pub mod CursorLaws
-pub mod RecordLaws
-pub mod DataLaws
-pub mod AnywhereLaws
