@@ -13,11 +13,9 @@ import tempfile
 import zlib
 
 from make import PLANES, colour, numbers, ppm, run
+from others import grafx2
 
 HERE = pathlib.Path(__file__).parent / "others"
-sys.path.insert(0, str(HERE))
-import grafx2  # noqa: E402
-
 NAMES = "common-lang", "common-io", "common-image", "imageio-core", "imageio-iff"
 JARS = ":".join(f"/usr/share/java/{name}.jar" for name in NAMES)
 REFUSED = {"grafx2_bytes": 20, "pike_true24": 24, "java_packed": 7, "java_plain": 7}
