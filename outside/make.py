@@ -14,13 +14,19 @@ MASK = b"P1 37 11\n" + b"0 1 1\n" * 135 + b"0 1\n"
 TEXTS = "-name Ring -author me -copyright 1985 -annotation Rings. -text odd -lace -hires".split()
 
 
-def ppm(width, height, colours, run=19):
+def numbers(width, height, colours, run=19):
     """Runs on the even lines and noise on the odd ones, in so many colours."""
-    pixels = bytearray()
     for n in range(width * height):
         x, y = n % width, n // width
-        k = (x * x // 7 + 3 * y + x * y // 11 if y % 2 else x // run + y) % colours
-        pixels += bytes([k * 37 % 256, (k * 91 + 13) % 256, 255 - k * 53 % 256])
+        yield (x * x // 7 + 3 * y + x * y // 11 if y % 2 else x // run + y) % colours
+
+
+def colour(k):
+    return bytes([k * 37 % 256, (k * 91 + 13) % 256, 255 - k * 53 % 256])
+
+
+def ppm(width, height, colours, run=19):
+    pixels = b"".join(map(colour, numbers(width, height, colours, run)))
     return b"P6\n%d %d\n255\n" % (width, height) + pixels
 
 

@@ -1,4 +1,4 @@
-//! `outside read FOLDER` reads the files of another program, by the library and
+//! `outside read FOLDER` reads the files of other programs, by the library and
 //! by the second reader, and compares every pixel with the PPM beside each file.
 //! `outside ham FILE` shows a HAM picture as ffmpeg does, as a PPM.
 //! `outside write FOLDER` has the library write pictures, with their pixels beside
@@ -50,7 +50,7 @@ fn bytes_of(path: &Path) -> Outcome<Vec<u8>> {
 fn read_all(folder: &Path) -> Outcome<String> {
     let entries = fs::read_dir(folder).map_err(|error| format!("{}: {error}", folder.display()))?;
     let mut paths: Vec<PathBuf> = entries.map(|entry| entry.unwrap().path()).collect();
-    paths.retain(|path| path.extension().is_some_and(|end| end == "ilbm"));
+    paths.retain(|path| path.extension().is_some_and(|end| end == "ilbm" || end == "lbm"));
     paths.sort();
     let mut pixels = 0;
     for path in &paths {

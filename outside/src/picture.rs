@@ -2,8 +2,9 @@
 
 use crate::ppm::Ppm;
 
-/// The flag of CAMG for HAM.
+/// The flags of CAMG for HAM and for half-bright.
 const HAM: u32 = 0x800;
+const HALF: u32 = 0x80;
 
 /// The first picture of a file; `refused` is the number of the rows, or 0.
 pub struct Picture {
@@ -12,6 +13,7 @@ pub struct Picture {
     pub height: usize,
     pub planes: u8,
     pub ham: bool,
+    pub half: bool,
     pub palette: Vec<u8>,
     pub colours: Vec<u8>,
 }
@@ -24,6 +26,7 @@ impl Picture {
             height: 0,
             planes: 0,
             ham: false,
+            half: false,
             palette: Vec::new(),
             colours: Vec::new(),
         }
@@ -47,8 +50,11 @@ impl Picture {
         Ppm { width: self.width, height: self.height, pixels }
     }
 
+    /// In a half-bright picture, colours from 32 on are those 32 before, halved.
     fn entry(&self, colour: u8) -> [u8; 3] {
-        std::array::from_fn(|n| self.palette[3 * usize::from(colour) + n])
+        let halved = self.half && colour >= 32;
+        let place = 3 * usize::from(if halved { colour - 32 } else { colour });
+        std::array::from_fn(|n| self.palette[place + n] >> u8::from(halved))
     }
 
     /// Each colour number's entry in the palette.
@@ -98,11 +104,12 @@ pub fn by_library(file: &[u8]) -> Picture {
     };
     let (width, height) = (usize::from(header.width), usize::from(header.height));
     let palette = florinhado::palette(file, 0, b"").map_or(Vec::new(), |told| told.value.to_vec());
-    let ham = florinhado::view_mode(file, 0).is_ok_and(|told| told.value & HAM != 0);
+    let mode = florinhado::view_mode(file, 0).map_or(0, |told| told.value);
     let mut colours = vec![0; width * height];
     let frame = florinhado::frame(file, 0, &mut colours);
     let refused = frame.map_or_else(|refused| refused.number, |_| 0);
-    Picture { refused, width, height, planes: header.planes, ham, palette, colours }
+    let (ham, half) = (mode & HAM != 0, mode & HALF != 0);
+    Picture { refused, width, height, planes: header.planes, ham, half, palette, colours }
 }
 
 /// What the second reader tells of it.
@@ -113,9 +120,10 @@ pub fn by_second(file: &[u8]) -> Picture {
     };
     let (width, height) = (usize::from(told.header.width), usize::from(told.header.height));
     let palette = second::palette(file, 0, b"").map_or(Vec::new(), <[u8]>::to_vec);
-    let ham = told.view_modes.value.is_some_and(|mode| mode & HAM != 0);
+    let mode = told.view_modes.value.unwrap_or(0);
     let frame = second::frame(file, 0, width * height);
     let refused = frame.as_ref().map_or_else(|refused| refused.number as usize, |_| 0);
     let colours = frame.map_or(Vec::new(), |frame| frame.colours);
-    Picture { refused, width, height, planes: told.header.planes, ham, palette, colours }
+    let (ham, half) = (mode & HAM != 0, mode & HALF != 0);
+    Picture { refused, width, height, planes: told.header.planes, ham, half, palette, colours }
 }
