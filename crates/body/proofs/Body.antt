@@ -10,9 +10,9 @@ use native.Mathlib.Nat.{zero-add, suc-mul, mul-le-mul}
 use native.Mathlib.Omega.{arith}
 use Rattle.ilbm.specs.declared.BitmapHeader.{BitmapHeader}
 use Rattle.ilbm.specs.Rows.{rowLength}
-use Rattle.body.specs.Put.{put, Room}
+use Rattle.planes.specs.Put.{put, Room}
 use Rattle.body.specs.Body.{lineRows, lineBytes, bodyLines, bodyBytes}
-use Rattle.body.proofs.Buffers.{Putting, putting-none, putting-length, putting-room, putting-more, putting-all}
+use Rattle.planes.proofs.Buffers.{Putting, putting-none, putting-length, putting-room, putting-more, putting-all}
 
 -- the next scan line and those after it
 lines-step :

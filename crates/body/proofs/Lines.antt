@@ -9,10 +9,11 @@ use native.Mathlib.Nat.{zero-add, pow-suc}
 use native.Mathlib.Numerals.{add-one}
 use native.Mathlib.Omega.{arith}
 use Rattle.pack.specs.Written.{writtenRow, written-short}
-use Rattle.body.specs.Put.{put, Room}
-use Rattle.body.specs.Body.{planeRow, lineRows}
-use Rattle.body.proofs.Buffers.{Putting, putting-none, putting-length, putting-room, putting-more, putting-all}
-use Rattle.body.proofs.Planes.{row-length}
+use Rattle.planes.specs.Put.{put, Room}
+use Rattle.planes.specs.Planes.{planeRow}
+use Rattle.body.specs.Body.{lineRows}
+use Rattle.planes.proofs.Buffers.{Putting, putting-none, putting-length, putting-room, putting-more, putting-all}
+use Rattle.planes.proofs.Planes.{row-length}
 
 pub power-more : (k v : ℕ) → v ≡ 2 ^ k → v * 2 ≡ 2 ^ (k + 1)
 power-more k v e = rw (add-one, pow-suc 2 k, e)

@@ -7,10 +7,10 @@ use borrow.Author.Tests.{eq-eqb, ne-eqb}
 use native.Mathlib.Omega.{arith}
 use Rattle.pack.specs.Pack.{packed}
 use Rattle.pack.specs.Written.{writtenRow}
-use Rattle.body.specs.Put.{put}
-use Rattle.body.specs.Body.{planeRow}
-use Rattle.body.proofs.Buffers.{put-all}
-use Rattle.body.proofs.Planes.{row-length}
+use Rattle.planes.specs.Put.{put}
+use Rattle.planes.specs.Planes.{planeRow}
+use Rattle.planes.proofs.Buffers.{put-all}
+use Rattle.planes.proofs.Planes.{row-length}
 
 module _ (weight : ℕ) (line old row : List ℕ) (n : ℕ) (l : length old ≡ n) (e : row ≡ put old 0 (planeRow weight line 0 n)) where
   pub made-row : row ≡ planeRow weight line 0 n

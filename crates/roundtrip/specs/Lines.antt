@@ -12,7 +12,8 @@ use Rattle.byterun.specs.ByteRun.{filled, rowOf}
 use Rattle.pack.specs.Written.{writtenRow, written-reads}
 use Rattle.ilbm.specs.declared.BitmapHeader.{BitmapHeader}
 use Rattle.ilbm.specs.Rows.{Read, read, thenRead, rowRead, rowsFrom, rowLength, rowsInLine, coloursFrom, lineFrom, linesFrom}
-use Rattle.body.specs.Body.{planeRow, lineRows, lineBytes, bodyLines}
+use Rattle.planes.specs.Planes.{planeRow}
+use Rattle.body.specs.Body.{lineRows, lineBytes, bodyLines}
 use Rattle.roundtrip.specs.Planes.{row-length, planeRows, rows-count, Below, below-take, below-drop, colours-back}
 
 -- behind the bytes `pre`

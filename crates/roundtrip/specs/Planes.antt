@@ -8,7 +8,7 @@ use lib.Seq.{drop-cons}
 use native.Mathlib.Nat.{add-zero, zero-add, pow-suc, div-div-eq-div-mul, div-one, zero-div, add-mul, mul-assoc, mul-comm, mul-one}
 use native.Mathlib.Omega.{arith}
 use Rattle.ilbm.specs.Rows.{rowLength, bitAt, colourBy, coloursFrom}
-use Rattle.body.specs.Body.{planeBit, planeByte, planeRow}
+use Rattle.planes.specs.Planes.{planeBit, planeByte, planeRow}
 
 -- ---- one plane row
 

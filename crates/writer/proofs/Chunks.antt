@@ -10,10 +10,10 @@ use native.Mathlib.Omega.{arith}
 use Rattle.chunk.specs.Chunks.{putWord}
 use Rattle.ilbm.specs.declared.BitmapHeader.{BitmapHeader}
 use Rattle.ilbm.specs.Contents.{ILBM, BMHD, CMAP}
-use Rattle.body.specs.Put.{put}
+use Rattle.planes.specs.Put.{put}
 use Rattle.writer.specs.Parts.{chunkHead, chunkBytes, paletteChunk, typeAndHeader, paletteSize, header-length}
 use Rattle.writer.specs.Write.{headerBytes, unsigned}
-use Rattle.body.proofs.Buffers.{put-none, put-next, put-put, put-length}
+use Rattle.planes.proofs.Buffers.{put-none, put-next, put-put, put-length}
 
 -- a copy of all of a slice
 paste-put : (out src : List ℕ) (at n : ℕ) → length src ≡ n → paste out at src n ≡ put out at src

@@ -13,11 +13,11 @@ use Rattle.ilbm.specs.declared.BitmapHeader.{BitmapHeader}
 use Rattle.ilbm.specs.Contents.{FORM, BODY}
 use Rattle.writer.specs.declared.WriteAnswer.{WriteAnswer}
 use Rattle.writer.specs.declared.WriteAnswer.the-variants.{Written, Refused}
-use Rattle.body.specs.Put.{put, Room}
+use Rattle.planes.specs.Put.{put, Room}
 use Rattle.writer.specs.Parts.{chunkHead, chunkBytes, paletteChunk, typeAndHeader, paletteSize, header-length, palette-length, file-parts, file-length}
 use Rattle.body.specs.Body.{bodyBytes}
 use Rattle.writer.specs.Write.{headerBytes, padOf, pictureFile, wrongFields, colourOver, writeOf, outAfter}
-use Rattle.body.proofs.Buffers.{put-put}
+use Rattle.planes.proofs.Buffers.{put-put}
 
 -- more bytes at the end of those at the buffer's start
 put-step :

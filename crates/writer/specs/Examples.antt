@@ -7,7 +7,8 @@ use lib.ListN.{length}
 use Rattle.chunk.specs.Chunks.{bytes}
 use Rattle.pack.specs.Pack.{three, sameFor, plainFor, pieceOf, packBy, packed}
 use Rattle.ilbm.specs.declared.BitmapHeader.{BitmapHeader}
-use Rattle.body.specs.Body.{planeByte, planeRow, lineRows, bodyLines, bodyBytes}
+use Rattle.planes.specs.Planes.{planeByte, planeRow}
+use Rattle.body.specs.Body.{lineRows, bodyLines, bodyBytes}
 use Rattle.writer.specs.Write.{headerBytes, pictureFile, wrongFields, colourOver, writeOf, lengthOf, numberOf}
 
 -- three pixels wide and one high, two planes, so compressed

@@ -6,7 +6,7 @@ ghost use mathlib.Core.Path.{_≡_};
 ghost use Prim.Native.Nat.{_+_, _*_, _/_, _%_, _^_, _≤_, _<_};
 ghost use lib.ListN.{length, replicate};
 ghost use Rattle.body.specs.Body.{bodyBytes};
-ghost use Rattle.body.specs.Put.{put, Room};
+ghost use Rattle.planes.specs.Put.{put, Room};
 ghost use Rattle.writer.specs.Write.{unsigned, headerBytes, pictureFile, wrongFields, colourOver, writeOf, outAfter};
 ghost use Rattle.writer.specs.Parts.{chunkHead, paletteChunk, typeAndHeader, paletteSize};
 

@@ -1,5 +1,5 @@
 -- The part of the buffer from the place on gets the packed row, so the buffer has it there.
-use Rattle.body.proofs.Buffers.{put-back}
+use Rattle.planes.proofs.Buffers.{put-back}
 use borrow.Author.Needs.{needs}
 use Rattle.body.proofs.pack_at.Statement.{statement}
 use Rattle.body.proofs.pack_at.Tie as tie

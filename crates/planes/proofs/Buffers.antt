@@ -8,7 +8,7 @@ use borrow.Rule.Slice.PartMut.{putMid}
 use native.Mathlib.Nat.{add-zero}
 use native.Mathlib.Numerals.{add-one}
 use native.Mathlib.Omega.{arith}
-use Rattle.body.specs.Put.{put, Room}
+use Rattle.planes.specs.Put.{put, Room}
 
 pub put-none : (out : List ℕ) (at : ℕ) → put out at [] ≡ out
 put-none out at = rw (add-zero at) (take-append-drop at out)

@@ -1,9 +1,9 @@
 -- The loop's invariant: the first j bytes of the row stand at their place. The measure is the bytes left.
 use Prim.Native.Nat.{_-_, _^_}
 use borrow.Author.Needs.{needs}
-use Rattle.body.proofs.Planes.{Filled, row-laws}
-use Rattle.body.proofs.plane_row.Statement.{statement}
-use Rattle.body.proofs.plane_row.Tie as tie
+use Rattle.planes.proofs.Planes.{Filled, row-laws}
+use Rattle.planes.proofs.plane_row.Statement.{statement}
+use Rattle.planes.proofs.plane_row.Tie as tie
 
 abbrev Inv-loop : tie.InvT-loop
 Inv-loop line k n out₀ at j₀ out j = Filled (2 ^ k) line out₀ out at j n

@@ -1,8 +1,8 @@
 -- The line ends among the eight pixels, or has them all.
-use Rattle.body.proofs.Planes.{byte-is}
+use Rattle.planes.proofs.Planes.{byte-is}
 use borrow.Author.Needs.{needs}
-use Rattle.body.proofs.plane_byte.Statement.{statement}
-use Rattle.body.proofs.plane_byte.Tie as tie
+use Rattle.planes.proofs.plane_byte.Statement.{statement}
+use Rattle.planes.proofs.plane_byte.Tie as tie
 
 mul-x : tie.Need-mul-x
 mul-x c = search needs

@@ -6,9 +6,9 @@ use lib.ListN.{length, getD, take, set, length-set, List·getD-eq-default}
 use native.Mathlib.Nat.{zero-add, add-zero}
 use native.Mathlib.Numerals.{add-one}
 use native.Mathlib.Omega.{arith}
-use Rattle.body.specs.Put.{put}
-use Rattle.body.specs.Body.{eightBits, pixel, bitsFrom, planeByte, planeRow}
-use Rattle.body.proofs.Buffers.{put-none, put-next}
+use Rattle.planes.specs.Put.{put}
+use Rattle.planes.specs.Planes.{eightBits, pixel, bitsFrom, planeByte, planeRow}
+use Rattle.planes.proofs.Buffers.{put-none, put-next}
 
 pub beyond-line : (line : List ℕ) (x : ℕ) → length line ≤ x → 0 ≡ pixel line x
 beyond-line line x h = sym (List·getD-eq-default line 0 h)

@@ -1,8 +1,8 @@
 -- A pixel beyond the line has the colour number 0; any other is read.
-use Rattle.body.proofs.Planes.{beyond-line}
+use Rattle.planes.proofs.Planes.{beyond-line}
 use borrow.Author.Needs.{needs}
-use Rattle.body.proofs.pixel.Statement.{statement}
-use Rattle.body.proofs.pixel.Tie as tie
+use Rattle.planes.proofs.pixel.Statement.{statement}
+use Rattle.planes.proofs.pixel.Tie as tie
 
 returns : tie.Need-returns
 returns c = search (beyond-line, needs)

@@ -1,8 +1,8 @@
 -- Eight pixels, each read or beyond the line.
-use Rattle.body.proofs.Planes.{bits-are}
+use Rattle.planes.proofs.Planes.{bits-are}
 use borrow.Author.Needs.{needs}
-use Rattle.body.proofs.last_bits.Statement.{statement}
-use Rattle.body.proofs.last_bits.Tie as tie
+use Rattle.planes.proofs.last_bits.Statement.{statement}
+use Rattle.planes.proofs.last_bits.Tie as tie
 
 pixel-requires : tie.Need-pixel-requires
 pixel-requires c κs = search needs
