@@ -5,9 +5,9 @@ use mathlib.Core.List.{_++_}
 use native.Mathlib.Omega.{arith}
 use borrow.Author.Needs.{needs}
 use lib.ListN.{length, take}
-use Rattle.listfile.proofs.TextLaws.{one-put, put-laws}
-use Rattle.listfile.proofs.put.Statement.{statement}
-use Rattle.listfile.proofs.put.Tie as tie
+use Rattle.text.proofs.Words.{one-put, put-laws}
+use Rattle.text.proofs.put.Statement.{statement}
+use Rattle.text.proofs.put.Tie as tie
 
 abbrev Inv-loop : tie.InvT-loop
 Inv-loop out₀ at word i₀ out i = (length out ≡ length out₀) × (i ≤ length word) × (take (at + i) out ≡ take at out₀ ++ take i word)

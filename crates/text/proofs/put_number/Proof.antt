@@ -2,9 +2,9 @@
 use Prim.Native.Nat.{_≤_}
 use native.Mathlib.Omega.{arith}
 use borrow.Author.Needs.{needs}
-use Rattle.listfile.proofs.TextLaws.{few-digits}
-use Rattle.listfile.proofs.put_number.Statement.{statement}
-use Rattle.listfile.proofs.put_number.Tie as tie
+use Rattle.text.proofs.Words.{few-digits}
+use Rattle.text.proofs.put_number.Statement.{statement}
+use Rattle.text.proofs.put_number.Tie as tie
 
 few : (c : tie.After-decimal) → c .decimal .result ≤ 20
 few c = few-digits (c .before .before .before .before .args .n) (c .decimal .result) (search needs) (c .decimal .ensures .1 .0)
