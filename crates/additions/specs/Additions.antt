@@ -8,10 +8,10 @@ use lib.ListN.{length, take, drop}
 use Rattle.name.specs.Name.{pick, kindOf}
 use Rattle.name.specs.declared.Kind.{Kind}
 use Rattle.name.specs.declared.Kind.the-variants.{FORM, LIST, CAT, PROP, FILLER, LOCAL}
-use Rattle.chunk.specs.declared.Position.{Position}
-use Rattle.chunk.specs.declared.Position.the-variants.{Outermost, InForm, InProp, InList, InCat}
+use Rattle.rules.specs.declared.Position.{Position}
+use Rattle.rules.specs.declared.Position.the-variants.{Outermost, InForm, InProp, InList, InCat}
 use Rattle.chunk.specs.Chunks.{Chunks, none, leaf, group, Chunk, aLeaf, aGroup, before, bytes, putWord, word}
-use Rattle.chunk.specs.Rules.{inside, after, groupType}
+use Rattle.rules.specs.Rules.{inside, after, groupType}
 use Rattle.grammar.specs.Grammar.{chunkName, member, seenAfter, Members, height}
 use Rattle.ilbm.specs.Contents.{ILBM}
 use Rattle.ilbm.specs.Ignored.{foreign, noPicture}

@@ -4,7 +4,7 @@ use mathlib.Core.Path.{_≡_, refl, sym, ap, ap₂, _∙_}
 use mathlib.Core.List.{List, [], _∷_}
 use native.Mathlib.Omega.{arith}
 use lib.ListN.{length}
-use Rattle.chunk.specs.declared.Position.the-variants.{Outermost}
+use Rattle.rules.specs.declared.Position.the-variants.{Outermost}
 use Rattle.chunk.specs.Chunks.{Chunks, none, group, Chunk, aLeaf, aGroup, before}
 use Rattle.grammar.specs.Grammar.{ChunkFile}
 use Rattle.ilbm.specs.Contents.{Property, own, shared, absent, Content, contentsOf}

@@ -4,8 +4,8 @@ use Prim.Native.Nat.{ℕ}
 use mathlib.Core.Path.{refl}
 use mathlib.Core.List.{List, [], _∷_}
 use Rattle.name.specs.Name.{wellFormed, versionName, typeName, typeBytes, reservedName, kindOf}
-use Rattle.chunk.specs.declared.Position.{Position}
-use Rattle.chunk.specs.declared.Position.the-variants.{InForm, InProp, InList, InCat}
+use Rattle.rules.specs.declared.Position.{Position}
+use Rattle.rules.specs.declared.Position.the-variants.{InForm, InProp, InList, InCat}
 use Rattle.chunk.specs.Chunks.{Chunks, none, leaf, group, Chunk, aLeaf, aGroup}
 use Rattle.grammar.specs.Grammar.{Members}
 use Rattle.ilbm.specs.Contents.{FORM, LIST, PROP, ILBM, BMHD, CMAP, BODY}

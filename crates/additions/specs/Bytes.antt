@@ -6,7 +6,7 @@ use mathlib.Core.List.{List, [], _++_, append-assoc}
 use native.Mathlib.Omega.{arith}
 use lib.ListN.{length, take, drop, length-append}
 use lib.Seq.{take-at, drop-at, take-append-add, drop-append-add}
-use Rattle.chunk.specs.declared.Position.{Position}
+use Rattle.rules.specs.declared.Position.{Position}
 use Rattle.chunk.specs.Chunks.{Chunks, none, leaf, group, Chunk, aLeaf, aGroup, before, bytes, putWord, word}
 use Rattle.grammar.specs.Words.{word-at}
 use Rattle.grammar.specs.Read.{length-leaf, length-group}

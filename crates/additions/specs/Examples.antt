@@ -8,8 +8,9 @@ use lib.Dec.{ltb}
 use borrow.Author.Tests.{ltb-true}
 use Rattle.name.specs.Name.{both, wellFormed, versionName, typeName, typeBytes, reservedName, kindOf}
 use Rattle.chunk.specs.Chunks.{none, leaf, group, Chunk, aLeaf, aGroup, bytes, putWord, word}
-use Rattle.chunk.specs.Rules.{propWithin}
-use Rattle.tree.specs.Judge.{found, readFile, headerOf, groupHeaderOf, run, chunkAt}
+use Rattle.rules.specs.Rules.{propWithin}
+use Rattle.header.specs.Checks.{headerOf, groupHeaderOf}
+use Rattle.tree.specs.Judge.{found, readFile, run, chunkAt}
 use Rattle.grammar.specs.Words.{Bytes}
 use Rattle.grammar.specs.Names.{both-true}
 use Rattle.ilbm.specs.Contents.{FORM, LIST, PROP, ILBM, BMHD, shared, absent, lastOwn, lastShared, propAmong, propertyOf, bodiesIn, contentsFrom}

@@ -6,7 +6,7 @@ use native.Mathlib.Omega.{arith}
 use lib.ListN.{length, take, drop, length-append}
 use lib.Seq.{take-append-add, drop-append-add}
 use Rattle.name.specs.Name.{kindOf}
-use Rattle.chunk.specs.declared.Position.the-variants.{Outermost}
+use Rattle.rules.specs.declared.Position.the-variants.{Outermost}
 use Rattle.chunk.specs.Chunks.{Chunks, none, group, Chunk, aLeaf, aGroup, before, bytes}
 use Rattle.grammar.specs.Grammar.{height, ChunkFile}
 use Rattle.grammar.specs.Names.{section-group}

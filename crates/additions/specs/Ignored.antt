@@ -10,10 +10,10 @@ use borrow.Author.Tests.{eqb-true}
 use Rattle.name.specs.Name.{pick, kindOf}
 use Rattle.name.specs.declared.Kind.{Kind}
 use Rattle.name.specs.declared.Kind.the-variants.{FORM, LIST, CAT, PROP, FILLER, LOCAL}
-use Rattle.chunk.specs.declared.Position.{Position}
-use Rattle.chunk.specs.declared.Position.the-variants.{Outermost, InForm, InProp, InList, InCat}
+use Rattle.rules.specs.declared.Position.{Position}
+use Rattle.rules.specs.declared.Position.the-variants.{Outermost, InForm, InProp, InList, InCat}
 use Rattle.chunk.specs.Chunks.{Chunks, none, leaf, group, Chunk, aLeaf, aGroup}
-use Rattle.chunk.specs.Rules.{isGroup, inProp, inside}
+use Rattle.rules.specs.Rules.{isGroup, inProp, inside}
 use Rattle.grammar.specs.Grammar.{Members}
 use Rattle.ilbm.specs.Contents.{ILBM, BODY, lastOwn, lastShared, bodiesIn}
 use Rattle.ilbm.specs.Ignored.{foreign, noPicture, Ignored, Known, own-past, shared-past, bodies-past}

@@ -10,10 +10,10 @@ use borrow.Author.Tests.{eq-eqb, eqb-true, not-true}
 use Rattle.name.specs.Name.{either, kindOf}
 use Rattle.name.specs.declared.Kind.{Kind}
 use Rattle.name.specs.declared.Kind.the-variants.{FORM, LIST, CAT, PROP, FILLER, LOCAL}
-use Rattle.chunk.specs.declared.Position.{Position}
-use Rattle.chunk.specs.declared.Position.the-variants.{Outermost, InForm, InProp, InList, InCat}
+use Rattle.rules.specs.declared.Position.{Position}
+use Rattle.rules.specs.declared.Position.the-variants.{Outermost, InForm, InProp, InList, InCat}
 use Rattle.chunk.specs.Chunks.{Chunks, none, leaf, group, Chunk, aLeaf, aGroup}
-use Rattle.chunk.specs.Rules.{isGroup, allowed, inCat, inList, inside, after, groupType}
+use Rattle.rules.specs.Rules.{isGroup, allowed, inCat, inList, inside, after, groupType}
 use Rattle.grammar.specs.Grammar.{member, newProp, seenAfter, Members}
 use Rattle.ilbm.specs.Ignored.{either-false}
 use Rattle.additions.specs.Additions.{Boundary, here, past, into, propTypes, LocalMay, FillerMay, LeafMay, FormMay, PropMay, GroupMay, May, insert}

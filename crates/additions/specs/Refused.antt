@@ -10,12 +10,13 @@ use lib.Seq.{slice}
 use borrow.Author.Tests.{lt-ltb, le-ltb, not-true}
 use Rattle.name.specs.Name.{versionName, kindOf}
 use Rattle.name.specs.declared.Kind.{Kind}
-use Rattle.chunk.specs.declared.Position.{Position}
-use Rattle.chunk.specs.declared.Position.the-variants.{Outermost}
-use Rattle.tree.specs.declared.Header.the-variants.{Bad, Leaf, Group}
+use Rattle.rules.specs.declared.Position.{Position}
+use Rattle.rules.specs.declared.Position.the-variants.{Outermost}
+use Rattle.header.specs.declared.Header.the-variants.{Bad, Leaf, Group}
 use Rattle.chunk.specs.Chunks.{Chunks, none, leaf, group, Chunk, aLeaf, aGroup, bytes, word, nextAt}
-use Rattle.chunk.specs.Rules.{inside, after, secondProp}
-use Rattle.tree.specs.Judge.{Found, found, refused, headerOf, run, chunkAt, readFile, verdictOf}
+use Rattle.rules.specs.Rules.{inside, after, secondProp}
+use Rattle.header.specs.Checks.{headerOf}
+use Rattle.tree.specs.Judge.{Found, found, refused, run, chunkAt, readFile, verdictOf}
 use Rattle.grammar.specs.Grammar.{seenAfter, Members, height, ChunkFile}
 use Rattle.grammar.specs.Words.{drop-slice, slice-at}
 use Rattle.grammar.specs.Read.{length-leaf, length-group, leaf-name, leaf-size, leaf-next, leaf-rest}

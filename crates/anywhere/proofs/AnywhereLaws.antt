@@ -9,7 +9,7 @@ use borrow.Author.Tests.{le-leb, lt-leb}
 use Rattle.name.specs.Name.{kindOf}
 use Rattle.name.specs.declared.Kind.{Kind}
 use Rattle.chunk.specs.Chunks.{word}
-use Rattle.chunk.specs.Rules.{isGroup}
+use Rattle.rules.specs.Rules.{isGroup}
 use Rattle.listing.specs.declared.Record.{Record}
 use Rattle.listing.specs.declared.Listed.the-variants.{Chunk as Listed-chunk, Refused}
 use Rattle.cursor.specs.declared.Cursor.{Cursor}

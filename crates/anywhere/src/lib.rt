@@ -59,7 +59,7 @@ pub fn lies_at(s: &[u8], cur: Cursor) -> bool
     }
     let c = chunk::name_at(s, p);
     let z = chunk::size_at(s, p + 4);
-    if chunk::is_group(c.kind()) {
+    if rules::is_group(c.kind()) {
         return group_lies(n, p, cur.level, z);
     }
     plain_lies(n, p, cur.level, z)

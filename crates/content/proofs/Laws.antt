@@ -11,7 +11,7 @@ use mir.Val.{Fits}
 use native.Mathlib.Omega.{arith}
 use Rattle.name.specs.Name.{pick, kindOf}
 use Rattle.chunk.specs.Chunks.{Chunks, none, leaf, group, bytes, putWord, word}
-use Rattle.chunk.specs.Rules.{isGroup}
+use Rattle.rules.specs.Rules.{isGroup}
 use Rattle.grammar.specs.Read.{Regular}
 use Rattle.ilbm.specs.declared.Origin.{Origin}
 use Rattle.ilbm.specs.declared.Origin.the-variants.{Own, Shared, Absent}

@@ -10,7 +10,7 @@ use name::Name;
 ghost use mathlib.Core.Path.{_≡_};
 ghost use mathlib.Core.Bool.{false};
 ghost use Rattle.name.specs.Name.{kindOf};
-ghost use Rattle.chunk.specs.Rules.{isGroup};
+ghost use Rattle.rules.specs.Rules.{isGroup};
 ghost use Rattle.members.specs.Members.{Row, StopsAtBody};
 ghost use Rattle.locate.specs.Spots.{Scoped};
 ghost use Rattle.content.specs.Held.{SharedIs, PropertyIs, ContentIs};

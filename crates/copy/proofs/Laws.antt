@@ -15,7 +15,7 @@ use Rattle.name.specs.declared.Kind.{Kind}
 use Rattle.tree.specs.declared.Verdict.{Verdict}
 use Rattle.tree.specs.declared.Verdict.the-variants as verdict
 use Rattle.chunk.specs.Chunks.{Chunks, none, Chunk, before, bytes, word, nextAt}
-use Rattle.chunk.specs.Rules.{isGroup}
+use Rattle.rules.specs.Rules.{isGroup}
 use Rattle.tree.specs.Judge.{Found, found, refused, readFile, verdictOf, checkOf}
 use Rattle.grammar.specs.Words.{Bytes}
 use Rattle.flat.specs.Order.{join, following}

@@ -5,7 +5,7 @@ use lib.Dec.{eqb}
 use lib.ListN.{set}
 use Rattle.name.specs.Name.{pick, kindOf}
 use Rattle.chunk.specs.Chunks.{word}
-use Rattle.chunk.specs.Rules.{isGroup}
+use Rattle.rules.specs.Rules.{isGroup}
 
 -- the buffer with the pad of the chunk at p zero; a group has none, nor has a leaf of even size
 abbrev pub padZeroed : List ℕ → ℕ → List ℕ → List ℕ

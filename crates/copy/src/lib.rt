@@ -33,7 +33,7 @@ fn zero_pad(s: &[u8], p: usize, out: &mut [u8]) -> usize
     ensures next { λ r. ⌜ r ≡ following (now (s .entry)) p ⌝ }
     ensures zeroed { λ _. ⌜ now (out .exit) ≡ padZeroed (now (s .entry)) p (now (out .entry)) ⌝ }
 {
-    if chunk::is_group(chunk::name_at(s, p).kind()) {
+    if rules::is_group(chunk::name_at(s, p).kind()) {
         return p + 12;
     }
     let z = chunk::size_at(s, p + 4);

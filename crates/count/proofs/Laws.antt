@@ -12,7 +12,7 @@ use native.Mathlib.Omega.{arith}
 use Rattle.name.specs.Name.{both, pick, kindOf}
 use Rattle.name.specs.declared.Kind.{Kind}
 use Rattle.chunk.specs.Chunks.{Chunks, none, leaf, group, Chunk, before, bytes, word, nextAt}
-use Rattle.chunk.specs.Rules.{isGroup}
+use Rattle.rules.specs.Rules.{isGroup}
 use Rattle.tree.specs.Judge.{Found, found, refused, readFile, verdictOf, checkOf}
 use Rattle.tree.specs.declared.Verdict.{Verdict}
 use Rattle.tree.specs.declared.Verdict.the-variants.{Accepted, Refused as Verdict-refused}

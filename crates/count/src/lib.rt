@@ -1,8 +1,8 @@
 // Counts the pictures of a file, by one pass over its chunks in file order.
-use chunk::is_group;
 use chunk::name_at;
 use chunk::size_at;
 use name::Name;
+use rules::is_group;
 use tree::Verdict;
 use tree::check;
 ghost use mathlib.Core.Path.{_≡_};

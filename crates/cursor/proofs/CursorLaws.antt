@@ -10,7 +10,7 @@ use Rattle.name.specs.Name.{kindOf}
 use Rattle.name.specs.declared.Kind.{Kind}
 use Rattle.name.specs.declared.Name.{Name}
 use Rattle.chunk.specs.Chunks.{word}
-use Rattle.chunk.specs.Rules.{isGroup}
+use Rattle.rules.specs.Rules.{isGroup}
 use Rattle.listing.specs.declared.Record.{Record}
 use Rattle.listing.specs.declared.Listed.the-variants.{Chunk as Listed-chunk}
 use Rattle.listing.specs.Records.{recordOf, countOf}

@@ -7,7 +7,7 @@ use lib.Dec.{eqb}
 use lib.ListN.{length, getD, set, drop, replicate}
 use Rattle.name.specs.Name.{pick, kindOf}
 use Rattle.chunk.specs.Chunks.{Chunks, none, leaf, group, Chunk, bytes, count, word}
-use Rattle.chunk.specs.Rules.{isGroup}
+use Rattle.rules.specs.Rules.{isGroup}
 use Rattle.tree.specs.Judge.{found, readFile}
 use Rattle.grammar.specs.Grammar.{height}
 use Rattle.grammar.specs.Read.{Regular}

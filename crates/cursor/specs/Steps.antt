@@ -11,7 +11,7 @@ use lib.Seq.{getD-set-same, getD-set-other}
 use borrow.Author.Tests.{eq-eqb, ne-eqb}
 use Rattle.name.specs.Name.{kindOf}
 use Rattle.chunk.specs.Chunks.{Chunks, none, leaf, group, bytes, count, word, nextAt}
-use Rattle.chunk.specs.Rules.{isGroup}
+use Rattle.rules.specs.Rules.{isGroup}
 use Rattle.grammar.specs.Grammar.{height}
 use Rattle.grammar.specs.Read.{length-leaf, length-group, leaf-fits, leaf-name, leaf-size, leaf-next, leaf-rest}
 use Rattle.grammar.specs.Read.{group-fits, group-name, group-size, group-type, group-members}

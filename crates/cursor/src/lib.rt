@@ -50,7 +50,7 @@ pub fn header_at(s: &[u8], cur: Cursor) -> Record
     let n = chunk::name_at(s, p);
     let size = chunk::size_at(s, p + 4);
     let kind = n.kind();
-    if chunk::is_group(kind) {
+    if rules::is_group(kind) {
         return Record {
             number: cur.number,
             level: cur.level,
@@ -121,7 +121,7 @@ pub fn onward(s: &[u8], cur: Cursor) -> Cursor
     let p = cur.place;
     let n = chunk::name_at(s, p);
     let z = chunk::size_at(s, p + 4);
-    if chunk::is_group(n.kind()) {
+    if rules::is_group(n.kind()) {
         return enter(cur, z);
     }
     pass(cur, z)

@@ -6,8 +6,9 @@ use lib.IntN.{pos}
 use lib.ListN.{length}
 use Rattle.name.specs.Name.{wellFormed, versionName, kindOf, typeBytes, reservedName, typeName}
 use Rattle.chunk.specs.Chunks.{word, count, bytes}
-use Rattle.chunk.specs.Rules.{propWithin}
-use Rattle.tree.specs.Judge.{groupHeaderOf, headerOf, run, chunkAt, readFile, checkOf}
+use Rattle.rules.specs.Rules.{propWithin}
+use Rattle.header.specs.Checks.{groupHeaderOf, headerOf}
+use Rattle.tree.specs.Judge.{run, chunkAt, readFile, checkOf}
 use Rattle.tree.specs.declared.Verdict.the-variants.{Accepted, Refused}
 use Rattle.byterun.specs.ByteRun.{filled, over, short, codeOf, unpackBy, unpackRow, plainRow}
 use Rattle.pack.specs.Pack.{three, sameFor, plainFor, pieceOf, packBy, packed}

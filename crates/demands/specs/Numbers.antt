@@ -8,15 +8,16 @@ use lib.ListN.{length}
 use native.Mathlib.Omega.{arith}
 use Rattle.name.specs.Name.{pick, wellFormed, versionName, kindOf}
 use Rattle.name.specs.declared.Kind.{Kind}
-use Rattle.chunk.specs.declared.Position.{Position}
-use Rattle.chunk.specs.declared.Position.the-variants.{Outermost}
-use Rattle.tree.specs.declared.Header.{Header}
-use Rattle.tree.specs.declared.Header.the-variants.{Bad, Leaf, Group}
+use Rattle.rules.specs.declared.Position.{Position}
+use Rattle.rules.specs.declared.Position.the-variants.{Outermost}
+use Rattle.header.specs.declared.Header.{Header}
+use Rattle.header.specs.declared.Header.the-variants.{Bad, Leaf, Group}
 use Rattle.tree.specs.declared.Verdict.{Verdict}
 use Rattle.tree.specs.declared.Verdict.the-variants.{Accepted, Refused}
 use Rattle.chunk.specs.Chunks.{Chunks, none, Chunk, before, word, nextAt, aLeaf, aGroup}
-use Rattle.chunk.specs.Rules.{isGroup, isSection, misplaced, inside, after, groupType, secondProp}
-use Rattle.tree.specs.Judge.{groupHeaderOf, sizedHeaderOf, headerOf, Found, found, refused, andThen, run, byHeader, chunkAt, readFile, verdictOf, checkOf}
+use Rattle.rules.specs.Rules.{isGroup, isSection, misplaced, inside, after, groupType, secondProp}
+use Rattle.header.specs.Checks.{groupHeaderOf, sizedHeaderOf, headerOf}
+use Rattle.tree.specs.Judge.{Found, found, refused, andThen, run, byHeader, chunkAt, readFile, verdictOf, checkOf}
 
 -- one of 1 to 12
 abbrev pub Structural : ℕ → Type 0

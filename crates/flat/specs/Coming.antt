@@ -10,10 +10,10 @@ use lib.ListN.{length, drop, length-append}
 use lib.Seq.{slice}
 use Rattle.name.specs.Name.{pick, kindOf}
 use Rattle.name.specs.declared.Kind.{Kind}
-use Rattle.chunk.specs.declared.Position.the-variants.{Outermost}
+use Rattle.rules.specs.declared.Position.the-variants.{Outermost}
 use Rattle.tree.specs.declared.Verdict.the-variants.{Accepted}
 use Rattle.chunk.specs.Chunks.{Chunks, none, leaf, group, Chunk, before, bytes, count, word, nextAt}
-use Rattle.chunk.specs.Rules.{isGroup}
+use Rattle.rules.specs.Rules.{isGroup}
 use Rattle.tree.specs.Judge.{found, readFile, checkOf}
 use Rattle.grammar.specs.Grammar.{ChunkFile}
 use Rattle.grammar.specs.Words.{Bytes}

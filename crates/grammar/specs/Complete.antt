@@ -10,11 +10,12 @@ use lib.Seq.{slice}
 use borrow.Author.Tests.{lt-ltb, le-ltb, not-true}
 use Rattle.name.specs.Name.{kindOf}
 use Rattle.name.specs.declared.Kind.{Kind}
-use Rattle.chunk.specs.declared.Position.{Position}
-use Rattle.tree.specs.declared.Header.the-variants.{Leaf, Group}
+use Rattle.rules.specs.declared.Position.{Position}
+use Rattle.header.specs.declared.Header.the-variants.{Leaf, Group}
 use Rattle.chunk.specs.Chunks.{Chunks, none, leaf, group, Chunk, aLeaf, aGroup, before, bytes, word, nextAt}
-use Rattle.chunk.specs.Rules.{inside, after, groupType, secondProp}
-use Rattle.tree.specs.Judge.{Found, found, headerOf, run, chunkAt, membersOf}
+use Rattle.rules.specs.Rules.{inside, after, groupType, secondProp}
+use Rattle.header.specs.Checks.{headerOf}
+use Rattle.tree.specs.Judge.{Found, found, run, chunkAt, membersOf}
 use Rattle.grammar.specs.Grammar.{chunkName, seenAfter, Members, height}
 use Rattle.grammar.specs.Read.{length-leaf, length-group, leaf-name, leaf-size, leaf-data, leaf-pad, leaf-next, leaf-rest}
 use Rattle.grammar.specs.Read.{group-name, group-size, group-type, group-members, group-next, group-rest}

@@ -9,10 +9,10 @@ use lib.ListN.{length, drop, length-append}
 use lib.Seq.{slice, drop-at}
 use borrow.Author.Tests.{ltb-false, le-ltb}
 use Rattle.name.specs.Name.{pick, versionName, kindOf}
-use Rattle.chunk.specs.declared.Position.the-variants.{Outermost}
+use Rattle.rules.specs.declared.Position.the-variants.{Outermost}
 use Rattle.tree.specs.declared.Verdict.the-variants.{Accepted}
 use Rattle.chunk.specs.Chunks.{Chunks, none, leaf, group, Chunk, aLeaf, aGroup, before, bytes, count, word, nextAt}
-use Rattle.chunk.specs.Rules.{isSection, inside}
+use Rattle.rules.specs.Rules.{isSection, inside}
 use Rattle.tree.specs.Judge.{Found, found, refused, chunkAt, membersOf, readFile, verdictOf, checkOf}
 use Rattle.grammar.specs.Grammar.{height, ChunkFile}
 use Rattle.grammar.specs.Words.{Bytes, drop-slice}

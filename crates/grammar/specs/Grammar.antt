@@ -8,10 +8,10 @@ use lib.ListN.{length}
 use Rattle.name.specs.Name.{both, either, wellFormed, versionName, kindOf, JJJJ}
 use Rattle.name.specs.declared.Kind.{Kind}
 use Rattle.name.specs.declared.Kind.the-variants.{FORM, LIST, CAT, PROP, FILLER, LOCAL}
-use Rattle.chunk.specs.declared.Position.{Position}
-use Rattle.chunk.specs.declared.Position.the-variants.{Outermost}
+use Rattle.rules.specs.declared.Position.{Position}
+use Rattle.rules.specs.declared.Position.the-variants.{Outermost}
 use Rattle.chunk.specs.Chunks.{Chunks, none, leaf, group, Chunk, before, bytes}
-use Rattle.chunk.specs.Rules.{isGroup, allowed, inside, after, groupType}
+use Rattle.rules.specs.Rules.{isGroup, allowed, inside, after, groupType}
 
 -- "Any other well-formed name is local, but JJJJ and the version names are never chunk names."
 abbrev pub chunkName : ℕ → Bool

@@ -9,12 +9,12 @@ use borrow.Author.Tests.{ltb-false, le-ltb, ne-eqb, not-false}
 use Rattle.name.specs.Name.{either, pick, wellFormed, versionName, kindOf, JJJJ}
 use Rattle.name.specs.declared.Kind.{Kind}
 use Rattle.name.specs.declared.Kind.the-variants.{FORM, LIST, CAT, PROP, FILLER, LOCAL}
-use Rattle.chunk.specs.declared.Position.{Position}
-use Rattle.tree.specs.declared.Header.{Header}
-use Rattle.tree.specs.declared.Header.the-variants.{Bad, Leaf, Group}
+use Rattle.rules.specs.declared.Position.{Position}
+use Rattle.header.specs.declared.Header.{Header}
+use Rattle.header.specs.declared.Header.the-variants.{Bad, Leaf, Group}
 use Rattle.chunk.specs.Chunks.{word, nextAt}
-use Rattle.chunk.specs.Rules.{isGroup, allowed, misplaced, groupType, secondProp}
-use Rattle.tree.specs.Judge.{headerOf, groupHeaderOf}
+use Rattle.rules.specs.Rules.{isGroup, allowed, misplaced, groupType, secondProp}
+use Rattle.header.specs.Checks.{headerOf, groupHeaderOf}
 use Rattle.grammar.specs.Grammar.{chunkName, newProp}
 use Rattle.grammar.specs.Names.{name-parts, chunk-name}
 use Rattle.grammar.specs.Props.{Seen, seen-here}

@@ -10,10 +10,10 @@ use borrow.Author.Tests.{leb-true, eqb-true, not-true}
 use Rattle.name.specs.Name.{both, either, pick, printable, eachByte, byte0, byte1, wellFormed, versionName, typeName, kindOf, JJJJ}
 use Rattle.name.specs.declared.Kind.{Kind}
 use Rattle.name.specs.declared.Kind.the-variants.{FORM, LIST, CAT, PROP, FILLER, LOCAL}
-use Rattle.chunk.specs.declared.Position.{Position}
-use Rattle.chunk.specs.declared.Position.the-variants.{Outermost, InForm, InProp, InList, InCat}
+use Rattle.rules.specs.declared.Position.{Position}
+use Rattle.rules.specs.declared.Position.the-variants.{Outermost, InForm, InProp, InList, InCat}
 use Rattle.chunk.specs.Chunks.{Chunks, none, leaf, group}
-use Rattle.chunk.specs.Rules.{isGroup, isSection, after, groupType}
+use Rattle.rules.specs.Rules.{isGroup, isSection, after, groupType}
 use Rattle.grammar.specs.Grammar.{chunkName, member, seenAfter, Members}
 use Rattle.grammar.specs.Read.{Regular}
 

@@ -9,7 +9,7 @@ use lib.Dec.{ltb}
 use borrow.Author.Tests.{ltb-true, lt-ltb, le-ltb}
 use Rattle.name.specs.Name.{either, pick, kindOf}
 use Rattle.chunk.specs.Chunks.{word, nextAt}
-use Rattle.chunk.specs.Rules.{propAt, propWithin, propBefore}
+use Rattle.rules.specs.Rules.{propAt, propWithin, propBefore}
 use Rattle.grammar.specs.Grammar.{member, seenAfter}
 use Rattle.grammar.specs.Names.{seen-member}
 

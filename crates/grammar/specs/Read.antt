@@ -9,7 +9,7 @@ use lib.ListN.{length, drop, length-append}
 use lib.Seq.{slice}
 use Rattle.name.specs.Name.{kindOf}
 use Rattle.chunk.specs.Chunks.{Chunks, none, leaf, group, putWord, bytes, word, nextAt}
-use Rattle.chunk.specs.Rules.{isGroup}
+use Rattle.rules.specs.Rules.{isGroup}
 use Rattle.grammar.specs.Words.{word-at, drop-word, drop-past, fits, slice-at}
 
 -- Chunks that read back as they are written: names and types have four bytes, the kind fits the name, pads are as long as they must be.

@@ -11,12 +11,13 @@ use lib.Seq.{slice, slice-empty, length-slice}
 use borrow.Author.Tests.{ltb-false}
 use Rattle.name.specs.Name.{pick, kindOf}
 use Rattle.name.specs.declared.Kind.{Kind}
-use Rattle.chunk.specs.declared.Position.{Position}
-use Rattle.tree.specs.declared.Header.{Header}
-use Rattle.tree.specs.declared.Header.the-variants.{Bad, Leaf, Group}
+use Rattle.rules.specs.declared.Position.{Position}
+use Rattle.header.specs.declared.Header.{Header}
+use Rattle.header.specs.declared.Header.the-variants.{Bad, Leaf, Group}
 use Rattle.chunk.specs.Chunks.{Chunks, none, Chunk, aLeaf, aGroup, before, putWord, bytes, word, nextAt}
-use Rattle.chunk.specs.Rules.{inside, after}
-use Rattle.tree.specs.Judge.{Found, found, refused, andThen, headerOf, run, byHeader, chunkAt, membersOf}
+use Rattle.rules.specs.Rules.{inside, after}
+use Rattle.header.specs.Checks.{headerOf}
+use Rattle.tree.specs.Judge.{Found, found, refused, andThen, run, byHeader, chunkAt, membersOf}
 use Rattle.grammar.specs.Grammar.{seenAfter, Members, height}
 use Rattle.grammar.specs.Words.{Bytes, slice-join, slice-word}
 use Rattle.grammar.specs.Read.{even-bytes}

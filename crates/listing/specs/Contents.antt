@@ -3,7 +3,7 @@ use Prim.Native.Nat.{ℕ, zero, suc, _+_}
 use mathlib.Core.Bool.{Bool, true, false}
 use mathlib.Core.List.{List, [], _∷_, _++_}
 use Rattle.chunk.specs.Chunks.{Chunks, none, leaf, group, Chunk, before}
-use Rattle.chunk.specs.Rules.{isGroup}
+use Rattle.rules.specs.Rules.{isGroup}
 use Rattle.tree.specs.Judge.{Found, found, refused, readFile}
 use Rattle.listing.specs.declared.Record.{Record}
 use Rattle.listing.specs.declared.Listed.{Listed}

@@ -7,7 +7,7 @@ use native.Mathlib.Omega.{arith}
 use lib.ListN.{length, drop}
 use lib.Seq.{slice}
 use Rattle.chunk.specs.Chunks.{Chunks, none, leaf, group, Chunk, before, bytes, count}
-use Rattle.chunk.specs.Rules.{isGroup}
+use Rattle.rules.specs.Rules.{isGroup}
 use Rattle.tree.specs.Judge.{Found, found, refused, readFile}
 use Rattle.grammar.specs.Words.{Bytes}
 use Rattle.grammar.specs.Read.{Regular, leaf-fits, leaf-data, leaf-next, leaf-rest, group-fits, group-members, group-next, group-rest}

@@ -12,7 +12,7 @@ use native.Mathlib.Omega.{arith}
 use Rattle.name.specs.Name.{both, pick, kindOf}
 use Rattle.name.specs.declared.Kind.{Kind}
 use Rattle.chunk.specs.Chunks.{Chunks, none, leaf, group, bytes, word}
-use Rattle.chunk.specs.Rules.{isGroup}
+use Rattle.rules.specs.Rules.{isGroup}
 use Rattle.grammar.specs.Read.{Regular, length-leaf, length-group, leaf-name, group-fits, group-name, group-size, group-type, group-members}
 use Rattle.ilbm.specs.Contents.{LIST, PROP, ILBM, SharedProp, propAmong, scopeInside}
 use Rattle.members.specs.declared.Sibling.{Sibling}

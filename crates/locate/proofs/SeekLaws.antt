@@ -10,7 +10,7 @@ use native.Mathlib.Numerals.{sub-one}
 use Rattle.name.specs.Name.{both, pick, kindOf}
 use Rattle.name.specs.declared.Kind.{Kind}
 use Rattle.chunk.specs.Chunks.{Chunks, none, leaf, group, bytes, word}
-use Rattle.chunk.specs.Rules.{isGroup}
+use Rattle.rules.specs.Rules.{isGroup}
 use Rattle.grammar.specs.Read.{length-leaf, length-group}
 use Rattle.ilbm.specs.Contents.{FORM, ILBM, SharedProp, scopeInside}
 use Rattle.ilbm.specs.Places.{PictureForm, formAt, formsFrom}

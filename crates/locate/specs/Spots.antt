@@ -6,7 +6,7 @@ use mathlib.Core.List.{List, [], _∷_, _++_}
 use lib.Dec.{eqb}
 use lib.ListN.{length, drop}
 use Rattle.name.specs.Name.{both, pick, kindOf}
-use Rattle.chunk.specs.Rules.{isGroup}
+use Rattle.rules.specs.Rules.{isGroup}
 use Rattle.chunk.specs.Chunks.{Chunks, none, leaf, group, bytes, word}
 use Rattle.ilbm.specs.Contents.{FORM, ILBM, SharedProp, propAmong, scopeInside}
 use Rattle.ilbm.specs.Places.{PictureForm, formAt, formsFrom}

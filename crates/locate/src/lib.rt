@@ -1,15 +1,15 @@
 // Finds the picture of a given number in a sound file, and the PROP that it may share.
-use chunk::is_group;
 use chunk::name_at;
 use chunk::size_at;
 use members::sibling_at;
 use name::Name;
+use rules::is_group;
 ghost use Prim.Native.Nat.{ℕ, _+_, _≤_, _<_};
 ghost use mathlib.Core.Path.{_≡_};
 ghost use mathlib.Core.Bool.{true};
 ghost use Rattle.name.specs.Name.{both, kindOf};
 ghost use Rattle.chunk.specs.Chunks.{word};
-ghost use Rattle.chunk.specs.Rules.{isGroup};
+ghost use Rattle.rules.specs.Rules.{isGroup};
 ghost use lib.Dec.{eqb};
 ghost use Rattle.members.specs.Members.{Row};
 ghost use Rattle.locate.specs.Spots.{Seeks, Visits, Enters, Scoped, Shares, ScopesInside, IsGroupOf, GroupAt};

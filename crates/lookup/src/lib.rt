@@ -51,7 +51,7 @@ fn extent_in(r: Record) -> Extent
     ensures { λ x. ⌜ x ≡ extentIn (Listed-chunk r) ⌝ }
 {
     let kind = r.kind;
-    if chunk::is_group(kind) {
+    if rules::is_group(kind) {
         return Extent::Refused {
             number: 15,
             place: 0,

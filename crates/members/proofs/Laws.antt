@@ -13,7 +13,7 @@ use borrow.Author.Tests.{eq-eqb, ne-eqb}
 use native.Mathlib.Omega.{arith}
 use Rattle.name.specs.Name.{pick, kindOf}
 use Rattle.chunk.specs.Chunks.{Chunks, none, leaf, group, bytes, word, nextAt}
-use Rattle.chunk.specs.Rules.{isGroup}
+use Rattle.rules.specs.Rules.{isGroup}
 use Rattle.grammar.specs.Read.{Regular, length-leaf, length-group, leaf-fits, leaf-name, leaf-size, leaf-data, leaf-next, leaf-rest, group-fits, group-name, group-size, group-next, group-rest}
 use Rattle.ilbm.specs.Contents.{BODY, lastShared, bodiesIn}
 use Rattle.ilbm.specs.Places.{lastSharedAt}

@@ -9,7 +9,7 @@ use lib.ListN.{length, drop}
 use lib.Seq.{slice}
 use Rattle.name.specs.Name.{pick, kindOf}
 use Rattle.chunk.specs.Chunks.{Chunks, none, leaf, group, bytes}
-use Rattle.chunk.specs.Rules.{isGroup}
+use Rattle.rules.specs.Rules.{isGroup}
 use Rattle.grammar.specs.Read.{Regular}
 use Rattle.ilbm.specs.Contents.{BODY, lastOwn, lastShared, bodiesIn}
 use Rattle.ilbm.specs.Places.{lastSharedAt, orZero}

@@ -7,7 +7,7 @@ ghost use mathlib.Core.Bool.{false};
 ghost use Prim.Native.Nat.{ℕ, _+_, _≤_, _<_};
 ghost use lib.Dec.{eqb};
 ghost use Rattle.name.specs.Name.{pick, kindOf};
-ghost use Rattle.chunk.specs.Rules.{isGroup};
+ghost use Rattle.rules.specs.Rules.{isGroup};
 ghost use Rattle.ilbm.specs.Contents.{BODY};
 ghost use Rattle.members.specs.Members.{Row, Tells, IsLast, CountsBodies, StopsAtBody, IsBody};
 ghost use Rattle.members.specs.declared.Part.the-variants.{Between};

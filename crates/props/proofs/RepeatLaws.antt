@@ -14,7 +14,7 @@ use Rattle.name.specs.Name.{both, either, pick, kindOf, byte0, byte1}
 use Rattle.name.specs.declared.Kind.{Kind}
 use Rattle.name.specs.declared.Kind.the-variants.{FORM, LIST, CAT, PROP, FILLER, LOCAL}
 use Rattle.chunk.specs.Chunks.{word, nextAt}
-use Rattle.chunk.specs.Rules.{propAt, propWithin, propBefore}
+use Rattle.rules.specs.Rules.{propAt, propWithin, propBefore}
 use Rattle.props.specs.Flags.{digit-below}
 use Rattle.props.specs.Repeats.{place, digitOf, classOf, slotOf, inClass, Settled, Fresh, FreshIn, Marked}
 

@@ -9,7 +9,7 @@ use native.Mathlib.Omega.{arith}
 use Rattle.name.specs.declared.Kind.{Kind}
 use Rattle.name.specs.declared.Kind.the-variants.{PROP}
 use Rattle.chunk.specs.Chunks.{word, nextAt}
-use Rattle.chunk.specs.Rules.{propAt, propWithin, propBefore, secondProp}
+use Rattle.rules.specs.Rules.{propAt, propWithin, propBefore, secondProp}
 
 pub prop-at-type : (s : List ℕ) (p t a b : ℕ) → a ≡ word s p → a ≡ 0x50524F50 → b ≡ word s (p + 8) → eqb b t ≡ propAt s p t
 prop-at-type s p t a b e i f = simp (← e, eq-eqb _ _ i, ← f)

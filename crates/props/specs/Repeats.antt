@@ -10,7 +10,7 @@ use lib.ListN.{length, getD}
 use Rattle.name.specs.Name.{both, pick, kindOf, byte0, byte1, byte2, byte3}
 use Rattle.name.specs.declared.Kind.the-variants.{PROP}
 use Rattle.chunk.specs.Chunks.{word, nextAt}
-use Rattle.chunk.specs.Rules.{propBefore}
+use Rattle.rules.specs.Rules.{propBefore}
 
 -- the place of the chunk after k others, the first of which stands at `from`
 unfoldable pub place : List ℕ → ℕ → ℕ → ℕ

@@ -1,11 +1,11 @@
 // Whether a PROP is the second of its type in its LIST. For a long run of PROPs the types are flagged first, so that the walk need not
 // look back from each.
-use chunk::Position;
 use chunk::name_at;
 use chunk::next_at;
 use chunk::size_at;
 use name::Kind;
 use name::Name;
+use rules::Position;
 ghost use mathlib.Core.Path.{_≡_};
 ghost use Prim.Native.Nat.{ℕ, _+_, _-_, _≤_, _<_};
 ghost use lib.ListN.{length, getD};
@@ -13,7 +13,7 @@ ghost use lib.Dec.{eqb};
 ghost use Rattle.name.specs.Name.{both, kindOf};
 ghost use Rattle.name.specs.declared.Kind.the-variants.{PROP};
 ghost use Rattle.chunk.specs.Chunks.{word};
-ghost use Rattle.chunk.specs.Rules.{propAt, propBefore, secondProp};
+ghost use Rattle.rules.specs.Rules.{propAt, propBefore, secondProp};
 ghost use Rattle.props.specs.Repeats.{
   digitOf,
   classOf,

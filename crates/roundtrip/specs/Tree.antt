@@ -6,7 +6,7 @@ use mathlib.Core.List.{List, [], _∷_, _++_, append-nil}
 use lib.ListN.{length, length-replicate}
 use native.Mathlib.Omega.{arith}
 use Rattle.name.specs.Name.{wellFormed, versionName, typeBytes, reservedName, typeName, kindOf}
-use Rattle.chunk.specs.declared.Position.the-variants.{Outermost, InForm}
+use Rattle.rules.specs.declared.Position.the-variants.{Outermost, InForm}
 use Rattle.tree.specs.declared.Verdict.the-variants.{Accepted}
 use Rattle.chunk.specs.Chunks.{Chunks, none, leaf, group, before, bytes, count}
 use Rattle.tree.specs.Judge.{found, readFile, checkOf}

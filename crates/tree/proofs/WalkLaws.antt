@@ -12,10 +12,10 @@ use native.Mathlib.Numerals.{sub-one}
 use Rattle.name.specs.Name.{versionName, kindOf}
 use Rattle.name.specs.declared.Kind.{Kind}
 use Rattle.name.specs.declared.Kind.the-variants.{FORM, LIST, CAT, PROP, FILLER, LOCAL}
-use Rattle.chunk.specs.declared.Position.{Position}
-use Rattle.chunk.specs.declared.Position.the-variants.{Outermost, InForm, InProp, InList, InCat}
-use Rattle.tree.specs.declared.Header.{Header}
-use Rattle.tree.specs.declared.Header.the-variants.{Bad, Leaf, Group}
+use Rattle.rules.specs.declared.Position.{Position}
+use Rattle.rules.specs.declared.Position.the-variants.{Outermost, InForm, InProp, InList, InCat}
+use Rattle.header.specs.declared.Header.{Header}
+use Rattle.header.specs.declared.Header.the-variants.{Bad, Leaf, Group}
 use Rattle.tree.specs.declared.Step.{Step}
 use Rattle.tree.specs.declared.Step.the-variants.{Next, Stop}
 use Rattle.tree.specs.declared.Walked.{Walked}
@@ -23,9 +23,11 @@ use Rattle.tree.specs.declared.Walked.the-variants.{Whole, Broken}
 use Rattle.tree.specs.declared.Verdict.{Verdict}
 use Rattle.tree.specs.declared.Verdict.the-variants.{Accepted, Refused}
 use Rattle.chunk.specs.Chunks.{Chunks, none, Chunk, aLeaf, aGroup, before, count, word, nextAt}
-use Rattle.chunk.specs.Rules.{isGroup, isSection, inside, after}
-use Rattle.tree.specs.Judge.{headerOf, Found, found, refused, andThen, run, chunkAt, membersOf, groupOf, told, toldAll, readFile, verdictOf, checkOf}
-use Rattle.tree.specs.Judge.{LeafFits, GroupFits, Fitting, Ahead, Counted}
+use Rattle.rules.specs.Rules.{isGroup, isSection, inside, after}
+use Rattle.header.specs.Checks.{headerOf}
+use Rattle.tree.specs.Judge.{Found, found, refused, andThen, run, chunkAt, membersOf, groupOf, told, toldAll, readFile, verdictOf, checkOf}
+use Rattle.header.specs.Checks.{LeafFits, GroupFits, Fitting}
+use Rattle.tree.specs.Judge.{Ahead, Counted}
 
 -- a chunk that is no group changes no position
 after-leaf : (w : Position) (k : Kind) → isGroup k ≡ false → after w k ≡ w

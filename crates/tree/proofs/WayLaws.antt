@@ -3,7 +3,7 @@ use Prim.Native.Nat.{ℕ, _+_}
 use mathlib.Core.Path.{_≡_, sym, _∙_}
 use mathlib.Core.List.{List}
 use native.Mathlib.Omega.{arith}
-use Rattle.chunk.specs.declared.Position.{Position}
+use Rattle.rules.specs.declared.Position.{Position}
 use Rattle.tree.specs.declared.Step.{Step}
 use Rattle.tree.specs.declared.Step.the-variants.{Next}
 use Rattle.chunk.specs.Chunks.{Chunk, nextAt}

@@ -24,7 +24,7 @@ use Rattle.locate.proofs.group_is.Reads as group-is-reads
 use Rattle.locate.proofs.inner_scope.Reads as inner-scope-reads
 use Rattle.members.proofs.sibling_at.Reads as sibling-at-reads
 use Rattle.name.proofs.Name.kind.Reads as kind-reads
-use Rattle.chunk.proofs.is_group.Reads as is-group-reads
+use Rattle.rules.proofs.is_group.Reads as is-group-reads
 use Rattle.chunk.proofs.name_at.Reads as name-at-reads
 use Rattle.chunk.proofs.size_at.Reads as size-at-reads
 use Rattle.locate.proofs.+enter+open+seek+visit.{statement}

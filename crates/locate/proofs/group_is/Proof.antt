@@ -7,7 +7,7 @@ use Rattle.locate.proofs.group_is.Reads as reads
 use Rattle.locate.proofs.group_is.Lts as lts
 use Rattle.locate.proofs.is_a.Reads as is-a-reads
 use Rattle.name.proofs.Name.kind.Reads as kind-reads
-use Rattle.chunk.proofs.is_group.Reads as is-group-reads
+use Rattle.rules.proofs.is_group.Reads as is-group-reads
 use Rattle.chunk.proofs.name_at.Reads as name-at-reads
 
 name-at-requires : tie.Need-name-at-requires

@@ -1,5 +1,4 @@
 -- Each way through the code takes the same branch of the definition.
-use borrow.Author.Needs.{needs}
 use Rattle.name.proofs.type_byte.Statement.{statement}
 use Rattle.name.proofs.type_byte.Tie as tie
 use Rattle.name.proofs.type_byte.Reads as reads
@@ -8,16 +7,16 @@ use Rattle.name.proofs.both.Reads as both-reads
 use Rattle.name.proofs.either.Reads as either-reads
 
 both-requires : tie.Need-both-requires
-both-requires c κs = search needs
+both-requires c κs = tt
 
 both-requires-2 : tie.Need-both-requires-2
-both-requires-2 c κs = search needs
+both-requires-2 c κs = tt
 
 either-requires : tie.Need-either-requires
-either-requires c κs = search needs
+either-requires c κs = tt
 
 either-requires-2 : tie.Need-either-requires-2
-either-requires-2 c κs = search needs
+either-requires-2 c κs = tt
 
 returns : tie.Need-returns
 returns c = cc

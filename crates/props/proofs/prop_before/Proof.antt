@@ -3,7 +3,7 @@ use Prim.Native.Nat.{ℕ, _-_}
 use mathlib.Core.Path.{refl}
 use native.Mathlib.Omega.{arith}
 use borrow.Author.Needs.{needs}
-use Rattle.chunk.specs.Rules.{propBefore}
+use Rattle.rules.specs.Rules.{propBefore}
 use Rattle.props.proofs.ScanLaws.{laws, Scans}
 use Rattle.props.proofs.prop_before.Statement.{statement}
 use Rattle.props.proofs.prop_before.Tie as tie

@@ -20,10 +20,10 @@ use Rattle.tree.proofs.+enter+group+member.Lts-group as group-lts
 use Rattle.tree.proofs.member.Reads as member
 use Rattle.tree.proofs.member.Kinds as member-kinds
 use Rattle.tree.proofs.+enter+group+member.Lts-member as member-lts
-use Rattle.chunk.proofs.after.Reads as after-reads
+use Rattle.rules.proofs.after.Reads as after-reads
 use Rattle.props.proofs.fresh_in_group.Reads as fresh-in-group-reads
-use Rattle.chunk.proofs.inside.Reads as inside-reads
-use Rattle.tree.proofs.judge_header.Reads as judge-header-reads
+use Rattle.rules.proofs.inside.Reads as inside-reads
+use Rattle.header.proofs.judge_header.Reads as judge-header-reads
 use Rattle.tree.proofs.+enter+group+member.{statement}
 use Rattle.tree.proofs.+enter+group+member.Tie.{close}
 

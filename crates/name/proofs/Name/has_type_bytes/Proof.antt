@@ -1,4 +1,4 @@
-use borrow.Author.Needs.{needs}
+-- The code asks of each byte what the definition asks.
 use Rattle.name.specs.Name.{typeBytes}
 use Rattle.name.proofs.Name.has_type_bytes.Statement.{statement}
 use Rattle.name.proofs.Name.has_type_bytes.Tie as tie
@@ -7,35 +7,27 @@ use Rattle.name.proofs.Name.has_type_bytes.Lts as lts
 use Rattle.name.proofs.both.Reads as both-reads
 use Rattle.name.proofs.type_byte.Reads as type-byte-reads
 
--- src/lib.rt:98:19
 type-byte-requires : tie.Need-type-byte-requires
-type-byte-requires c κs = search needs
+type-byte-requires c κs = tt
 
--- src/lib.rt:98:33
 type-byte-requires-2 : tie.Need-type-byte-requires-2
-type-byte-requires-2 c κs = search needs
+type-byte-requires-2 c κs = tt
 
--- src/lib.rt:98:14
 both-requires : tie.Need-both-requires
-both-requires c κs = search needs
+both-requires c κs = tt
 
--- src/lib.rt:98:53
 type-byte-requires-3 : tie.Need-type-byte-requires-3
-type-byte-requires-3 c κs = search needs
+type-byte-requires-3 c κs = tt
 
--- src/lib.rt:98:67
 type-byte-requires-4 : tie.Need-type-byte-requires-4
-type-byte-requires-4 c κs = search needs
+type-byte-requires-4 c κs = tt
 
--- src/lib.rt:98:48
 both-requires-2 : tie.Need-both-requires-2
-both-requires-2 c κs = search needs
+both-requires-2 c κs = tt
 
--- src/lib.rt:98:9
 both-requires-3 : tie.Need-both-requires-3
-both-requires-3 c κs = search needs
+both-requires-3 c κs = tt
 
--- src/lib.rt:91:5
 returns : tie.Need-returns
 unfolding typeBytes
 returns c = cc

@@ -1,4 +1,4 @@
-use borrow.Author.Needs.{needs}
+-- The code asks of the stem and of the figure what the definition asks.
 use Rattle.name.specs.Name.{versionName}
 use Rattle.name.proofs.Name.is_version.Statement.{statement}
 use Rattle.name.proofs.Name.is_version.Tie as tie
@@ -7,23 +7,18 @@ use Rattle.name.proofs.Name.is_version.Lts as lts
 use Rattle.name.proofs.both.Reads as both-reads
 use Rattle.name.proofs.either.Reads as either-reads
 
--- src/lib.rt:85:44
 either-requires : tie.Need-either-requires
-either-requires c κs = search needs
+either-requires c κs = tt
 
--- src/lib.rt:85:13
 either-requires-2 : tie.Need-either-requires-2
-either-requires-2 c κs = search needs
+either-requires-2 c κs = tt
 
--- src/lib.rt:86:13
 both-requires : tie.Need-both-requires
-both-requires c κs = search needs
+both-requires c κs = tt
 
--- src/lib.rt:84:9
 both-requires-2 : tie.Need-both-requires-2
-both-requires-2 c κs = search needs
+both-requires-2 c κs = tt
 
--- src/lib.rt:79:5
 returns : tie.Need-returns
 unfolding versionName
 returns c = cc

@@ -1,4 +1,4 @@
-use borrow.Author.Needs.{needs}
+-- The code asks of each byte, and of each two neighbours, what the definition asks.
 use Rattle.name.specs.Name.{wellFormed}
 use Rattle.name.proofs.Name.is_well_formed.Statement.{statement}
 use Rattle.name.proofs.Name.is_well_formed.Tie as tie
@@ -8,59 +8,45 @@ use Rattle.name.proofs.both.Reads as both-reads
 use Rattle.name.proofs.printable.Reads as printable-reads
 use Rattle.name.proofs.space_then.Reads as space-then-reads
 
--- src/lib.rt:73:23
 printable-requires : tie.Need-printable-requires
-printable-requires c κs = search needs
+printable-requires c κs = tt
 
--- src/lib.rt:73:37
 printable-requires-2 : tie.Need-printable-requires-2
-printable-requires-2 c κs = search needs
+printable-requires-2 c κs = tt
 
--- src/lib.rt:73:18
 both-requires : tie.Need-both-requires
-both-requires c κs = search needs
+both-requires c κs = tt
 
--- src/lib.rt:73:57
 printable-requires-3 : tie.Need-printable-requires-3
-printable-requires-3 c κs = search needs
+printable-requires-3 c κs = tt
 
--- src/lib.rt:73:71
 printable-requires-4 : tie.Need-printable-requires-4
-printable-requires-4 c κs = search needs
+printable-requires-4 c κs = tt
 
--- src/lib.rt:73:52
 both-requires-2 : tie.Need-both-requires-2
-both-requires-2 c κs = search needs
+both-requires-2 c κs = tt
 
--- src/lib.rt:73:13
 both-requires-3 : tie.Need-both-requires-3
-both-requires-3 c κs = search needs
+both-requires-3 c κs = tt
 
--- src/lib.rt:74:18
 space-then-requires : tie.Need-space-then-requires
-space-then-requires c κs = search needs
+space-then-requires c κs = tt
 
--- src/lib.rt:74:41
 space-then-requires-2 : tie.Need-space-then-requires-2
-space-then-requires-2 c κs = search needs
+space-then-requires-2 c κs = tt
 
--- src/lib.rt:74:59
 space-then-requires-3 : tie.Need-space-then-requires-3
-space-then-requires-3 c κs = search needs
+space-then-requires-3 c κs = tt
 
--- src/lib.rt:74:36
 both-requires-4 : tie.Need-both-requires-4
-both-requires-4 c κs = search needs
+both-requires-4 c κs = tt
 
--- src/lib.rt:74:13
 both-requires-5 : tie.Need-both-requires-5
-both-requires-5 c κs = search needs
+both-requires-5 c κs = tt
 
--- src/lib.rt:72:9
 both-requires-6 : tie.Need-both-requires-6
-both-requires-6 c κs = search needs
+both-requires-6 c κs = tt
 
--- src/lib.rt:65:5
 returns : tie.Need-returns
 unfolding wellFormed
 returns c = cc

@@ -1,11 +1,11 @@
 -- The name JJJJ, or a kind that is not allowed here.
-use Rattle.chunk.proofs.Laws.{laws}
+use Rattle.rules.proofs.Laws.{laws}
 use borrow.Author.Needs.{needs}
-use Rattle.chunk.proofs.misplaced.Statement.{statement}
-use Rattle.chunk.proofs.misplaced.Tie as tie
-use Rattle.chunk.proofs.misplaced.Reads as reads
-use Rattle.chunk.proofs.misplaced.Lts as lts
-use Rattle.chunk.proofs.allowed.Reads as allowed-reads
+use Rattle.rules.proofs.misplaced.Statement.{statement}
+use Rattle.rules.proofs.misplaced.Tie as tie
+use Rattle.rules.proofs.misplaced.Reads as reads
+use Rattle.rules.proofs.misplaced.Lts as lts
+use Rattle.rules.proofs.allowed.Reads as allowed-reads
 
 returns : tie.Need-returns
 returns c = search (laws, needs)

@@ -5,8 +5,8 @@ use mathlib.Core.Bool.{Bool, true, not}
 use borrow.Author.Tests.{eq-eqb, ne-eqb}
 use Rattle.name.specs.Name.{kindOf, JJJJ}
 use Rattle.name.specs.declared.Kind.{Kind}
-use Rattle.chunk.specs.declared.Position.{Position}
-use Rattle.chunk.specs.Rules.{allowed, misplaced}
+use Rattle.rules.specs.declared.Position.{Position}
+use Rattle.rules.specs.Rules.{allowed, misplaced}
 
 pub misplaced-jjjj : (w : Position) (n : ℕ) → n ≡ JJJJ → true ≡ misplaced w n
 misplaced-jjjj w n e = simp (eq-eqb _ _ e)

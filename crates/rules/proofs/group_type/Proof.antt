@@ -1,9 +1,9 @@
 -- Each way through the code takes the same branch of the definition.
 use borrow.Author.Needs.{needs}
-use Rattle.chunk.proofs.group_type.Statement.{statement}
-use Rattle.chunk.proofs.group_type.Tie as tie
-use Rattle.chunk.proofs.group_type.Reads as reads
-use Rattle.chunk.proofs.group_type.Lts as lts
+use Rattle.rules.proofs.group_type.Statement.{statement}
+use Rattle.rules.proofs.group_type.Tie as tie
+use Rattle.rules.proofs.group_type.Reads as reads
+use Rattle.rules.proofs.group_type.Lts as lts
 use Rattle.name.proofs.Name.is_type.Reads as is-type-reads
 use Rattle.name.proofs.Name.is_well_formed.Reads as is-well-formed-reads
 

@@ -1,12 +1,12 @@
 -- Each way through the code takes the same branch of the definition; the places it reads lie inside by laws of HeaderLaws.antt.
-use Rattle.tree.proofs.HeaderLaws.{refuse-7, refuse-8, of-group, group-fits, of-leaf, leaf-fits}
+use Rattle.header.proofs.HeaderLaws.{refuse-7, refuse-8, of-group, group-fits, of-leaf, leaf-fits}
 use borrow.Author.Needs.{needs}
-use Rattle.tree.proofs.sized_header.Statement.{statement}
-use Rattle.tree.proofs.sized_header.Tie as tie
-use Rattle.tree.proofs.sized_header.Reads as reads
-use Rattle.tree.proofs.sized_header.Lts as lts
-use Rattle.tree.proofs.group_header.Reads as group-header-reads
-use Rattle.chunk.proofs.is_group.Reads as is-group-reads
+use Rattle.header.proofs.sized_header.Statement.{statement}
+use Rattle.header.proofs.sized_header.Tie as tie
+use Rattle.header.proofs.sized_header.Reads as reads
+use Rattle.header.proofs.sized_header.Lts as lts
+use Rattle.header.proofs.group_header.Reads as group-header-reads
+use Rattle.rules.proofs.is_group.Reads as is-group-reads
 use Rattle.chunk.proofs.size_at.Reads as size-at-reads
 
 sub-room : tie.Need-sub-room

@@ -1,16 +1,16 @@
 -- Each way through the code takes the same branch of the definition; the places it reads lie inside by laws of HeaderLaws.antt.
-use Rattle.tree.proofs.HeaderLaws.{refuse-4, refuse-3, refuse-6, refuse-5, well-named, kind-at}
+use Rattle.header.proofs.HeaderLaws.{refuse-4, refuse-3, refuse-6, refuse-5, well-named, kind-at}
 use borrow.Author.Needs.{needs}
-use Rattle.tree.proofs.judge_header.Statement.{statement}
-use Rattle.tree.proofs.judge_header.Tie as tie
-use Rattle.tree.proofs.judge_header.Reads as reads
-use Rattle.tree.proofs.judge_header.Lts as lts
+use Rattle.header.proofs.judge_header.Statement.{statement}
+use Rattle.header.proofs.judge_header.Tie as tie
+use Rattle.header.proofs.judge_header.Reads as reads
+use Rattle.header.proofs.judge_header.Lts as lts
 use Rattle.name.proofs.Name.is_version.Reads as is-version-reads
 use Rattle.name.proofs.Name.is_well_formed.Reads as is-well-formed-reads
 use Rattle.name.proofs.Name.kind.Reads as kind-reads
-use Rattle.chunk.proofs.misplaced.Reads as misplaced-reads
+use Rattle.rules.proofs.misplaced.Reads as misplaced-reads
 use Rattle.chunk.proofs.name_at.Reads as name-at-reads
-use Rattle.tree.proofs.sized_header.Reads as sized-header-reads
+use Rattle.header.proofs.sized_header.Reads as sized-header-reads
 
 sub-if1 : tie.Need-sub-if1
 sub-if1 c = search needs

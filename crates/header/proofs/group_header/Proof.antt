@@ -1,13 +1,13 @@
 -- Each way through the code takes the same branch of the definition; the places it reads lie inside by laws of HeaderLaws.antt.
 use mathlib.Core.Path.{refl}
 use native.Mathlib.Omega.{arith}
-use Rattle.tree.proofs.HeaderLaws.{refuse-9, refuse-10, refuse-11, refuse-12, group-sound}
+use Rattle.header.proofs.HeaderLaws.{refuse-9, refuse-10, refuse-11, refuse-12, group-sound}
 use borrow.Author.Needs.{needs}
-use Rattle.tree.proofs.group_header.Statement.{statement}
-use Rattle.tree.proofs.group_header.Tie as tie
-use Rattle.tree.proofs.group_header.Reads as reads
-use Rattle.tree.proofs.group_header.Lts as lts
-use Rattle.chunk.proofs.group_type.Reads as group-type-reads
+use Rattle.header.proofs.group_header.Statement.{statement}
+use Rattle.header.proofs.group_header.Tie as tie
+use Rattle.header.proofs.group_header.Reads as reads
+use Rattle.header.proofs.group_header.Lts as lts
+use Rattle.rules.proofs.group_type.Reads as group-type-reads
 use Rattle.chunk.proofs.name_at.Reads as name-at-reads
 use Rattle.props.proofs.second_prop.Reads as second-prop-reads
 

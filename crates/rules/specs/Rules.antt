@@ -6,9 +6,9 @@ use lib.Dec.{ltb, eqb}
 use Rattle.name.specs.Name.{both, either, pick, wellFormed, typeName, kindOf, JJJJ}
 use Rattle.name.specs.declared.Kind.{Kind}
 use Rattle.name.specs.declared.Kind.the-variants.{FORM, LIST, CAT, PROP, FILLER, LOCAL}
-use Rattle.chunk.specs.declared.Position.{Position}
-use Rattle.chunk.specs.declared.Position.the-variants.{Outermost, InForm, InProp, InList, InCat}
+use Rattle.rules.specs.declared.Position.{Position}
+use Rattle.rules.specs.declared.Position.the-variants.{Outermost, InForm, InProp, InList, InCat}
 use Rattle.chunk.specs.Chunks.{word, nextAt}
 
 -- "FORM, LIST, CAT and PROP are groups"
 abbrev pub isGroup : Kind → Bool

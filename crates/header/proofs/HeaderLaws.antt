@@ -7,12 +7,12 @@ use borrow.Author.Tests.{lt-ltb, le-ltb, eq-eqb, ne-eqb}
 use native.Mathlib.Omega.{arith}
 use Rattle.name.specs.Name.{pick, wellFormed, versionName, kindOf}
 use Rattle.name.specs.declared.Kind.{Kind}
-use Rattle.chunk.specs.declared.Position.{Position}
-use Rattle.tree.specs.declared.Header.{Header}
-use Rattle.tree.specs.declared.Header.the-variants.{Bad, Leaf, Group}
+use Rattle.rules.specs.declared.Position.{Position}
+use Rattle.header.specs.declared.Header.{Header}
+use Rattle.header.specs.declared.Header.the-variants.{Bad, Leaf, Group}
 use Rattle.chunk.specs.Chunks.{word}
-use Rattle.chunk.specs.Rules.{isGroup, misplaced, groupType, secondProp}
-use Rattle.tree.specs.Judge.{groupHeaderOf, sizedHeaderOf, headerOf, LeafFits, GroupFits, Fitting, Opened}
+use Rattle.rules.specs.Rules.{isGroup, misplaced, groupType, secondProp}
+use Rattle.header.specs.Checks.{groupHeaderOf, sizedHeaderOf, headerOf, LeafFits, GroupFits, Fitting, Opened}
 
 module _ (levels : ℕ) (s : List ℕ) (from : ℕ) (k : Kind) (z p : ℕ) where
   pub refuse-9 : levels ≡ 0 → Bad 9 ≡ groupHeaderOf levels s from k z p
