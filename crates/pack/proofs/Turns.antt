@@ -3,17 +3,18 @@
 use Prim.Native.Nat.{ℕ, _+_, _-_, _*_, _^_, _<_, _≤_}
 use mathlib.Core.Path.{_≡_, refl, sym, ap, _∙_}
 use mathlib.Core.List.{List, [], _∷_, _++_, append-assoc, append-nil}
+use mathlib.Core.Bool.{Bool, true, false}
 use lib.ListN.{length, getD, take, drop, set, length-append, length-drop, take-append-drop}
 use lib.Seq.{paste, length-paste, take-paste, drop-paste, drop-drop, sets-eq, take-suc-set, drop-set-lt, take-take, take-all, length-take-le}
 use mir.Syntax.{w64}
 use mir.Val.{Fits}
 use native.Mathlib.Omega.{arith}
 use native.Mathlib.Numerals.{add-one, one-add}
-use Rattle.pack.specs.Pack.{pieceOf, onPiece, packed}
+use Rattle.pack.specs.Pack.{three, sameFor, plainFor, pieceOf, onPiece, packed}
 use Rattle.pack.specs.Laws.{Taken, piece-taken, packed-none, packed-step}
 use Rattle.pack.specs.declared.Piece.{Piece}
 use Rattle.pack.specs.declared.Piece.the-variants.{Repeat, Literal}
-use Rattle.pack.proofs.Scan.{first}
+use Rattle.pack.proofs.Scan.{first, three-known, piece-repeat, piece-literal}
 
 module _ (row : List ℕ) (i : ℕ) (r : Piece) (is : r ≡ pieceOf (drop i row)) (h : i < length row) where
   left : length (drop i row) ≡ length row - i
@@ -35,10 +36,10 @@ module _ (row : List ℕ) (i : ℕ) (r : Piece) (is : r ≡ pieceOf (drop i row)
     pub repeat-less : length row - (i + k) < length row - i
     repeat-less = let u = taken (Repeat k) e in omega arith
 
-    pub repeat-total-fits : (total : ℕ) → total ≤ i + i → length row * 1 < 2 ^ 63 → Fits w64 (total + 2)
+    repeat-total-fits : (total : ℕ) → total ≤ i + i → length row * 1 < 2 ^ 63 → Fits w64 (total + 2)
     repeat-total-fits total t b = let u = taken (Repeat k) e in let l = left in omega arith
 
-    pub repeat-counted :
+    repeat-counted :
         (total v : ℕ) → total ≤ i + i → total + length (packed (drop i row)) ≡ v →
         (i + k ≤ length row) × (total + 2 ≤ i + k + (i + k)) × (total + 2 + length (packed (drop (i + k) row)) ≡ v)
     repeat-counted total v t w =
@@ -58,18 +59,53 @@ module _ (row : List ℕ) (i : ℕ) (r : Piece) (is : r ≡ pieceOf (drop i row)
     pub literal-less : length row - (i + k) < length row - i
     literal-less = let u = taken (Literal k) e in omega arith
 
-    pub literal-code-fits : (total : ℕ) → total ≤ i + i → length row * 1 < 2 ^ 63 → Fits w64 (total + 1)
+    literal-code-fits : (total : ℕ) → total ≤ i + i → length row * 1 < 2 ^ 63 → Fits w64 (total + 1)
     literal-code-fits total t b = let u = taken (Literal k) e in let l = left in omega arith
 
-    pub literal-total-fits : (total : ℕ) → total ≤ i + i → length row * 1 < 2 ^ 63 → Fits w64 (total + 1 + k)
+    literal-total-fits : (total : ℕ) → total ≤ i + i → length row * 1 < 2 ^ 63 → Fits w64 (total + 1 + k)
     literal-total-fits total t b = let u = taken (Literal k) e in let l = left in omega arith
 
-    pub literal-counted :
+    literal-counted :
         (total v : ℕ) → total ≤ i + i → total + length (packed (drop i row)) ≡ v →
         (i + k ≤ length row) × (total + 1 + k ≤ i + k + (i + k)) × (total + 1 + k + length (packed (drop (i + k) row)) ≡ v)
     literal-counted total v t w =
         let u = taken (Literal k) e in let l = left in let z = rw (copied, length-append, long) at w in
         (omega arith, omega arith, omega arith)
+
+-- the same where the tests of the code settle the piece
+module _ (row : List ℕ) (i : ℕ) (t : Bool) (is : t ≡ three (drop i row)) (h : i < length row) (k : ℕ) where
+  module _ (e : t ≡ true) (n : k ≡ sameFor 128 (getD row i 0) (drop i row)) where
+    pub same-fits : length row < 2 ^ 64 → Fits w64 (i + k)
+    same-fits = repeat-fits row i (Repeat k) (piece-repeat row i k t is e n) h k refl
+
+    pub same-less : length row - (i + k) < length row - i
+    same-less = repeat-less row i (Repeat k) (piece-repeat row i k t is e n) h k refl
+
+    pub same-total-fits : (total : ℕ) → total ≤ i + i → length row * 1 < 2 ^ 63 → Fits w64 (total + 2)
+    same-total-fits = repeat-total-fits row i (Repeat k) (piece-repeat row i k t is e n) h k refl
+
+    pub same-counted :
+        (total v : ℕ) → total ≤ i + i → total + length (packed (drop i row)) ≡ v →
+        (i + k ≤ length row) × (total + 2 ≤ i + k + (i + k)) × (total + 2 + length (packed (drop (i + k) row)) ≡ v)
+    same-counted = repeat-counted row i (Repeat k) (piece-repeat row i k t is e n) h k refl
+
+  module _ (e : t ≡ false) (n : k ≡ plainFor 128 (drop i row)) where
+    pub plain-fits : length row < 2 ^ 64 → Fits w64 (i + k)
+    plain-fits = literal-fits row i (Literal k) (piece-literal row i k t is e n) h k refl
+
+    pub plain-less : length row - (i + k) < length row - i
+    plain-less = literal-less row i (Literal k) (piece-literal row i k t is e n) h k refl
+
+    pub plain-code-fits : (total : ℕ) → total ≤ i + i → length row * 1 < 2 ^ 63 → Fits w64 (total + 1)
+    plain-code-fits = literal-code-fits row i (Literal k) (piece-literal row i k t is e n) h k refl
+
+    pub plain-total-fits : (total : ℕ) → total ≤ i + i → length row * 1 < 2 ^ 63 → Fits w64 (total + 1 + k)
+    plain-total-fits = literal-total-fits row i (Literal k) (piece-literal row i k t is e n) h k refl
+
+    pub plain-counted :
+        (total v : ℕ) → total ≤ i + i → total + length (packed (drop i row)) ≡ v →
+        (i + k ≤ length row) × (total + 1 + k ≤ i + k + (i + k)) × (total + 1 + k + length (packed (drop (i + k) row)) ≡ v)
+    plain-counted = literal-counted row i (Literal k) (piece-literal row i k t is e n) h k refl
 
 pub count-starts : (row : List ℕ) → 0 + length (packed (drop 0 row)) ≡ length (packed row)
 count-starts row = omega arith
@@ -77,7 +113,7 @@ count-starts row = omega arith
 pub count-ends : (row : List ℕ) (i total v : ℕ) → length row ≤ i → total + length (packed (drop i row)) ≡ v → total ≡ v
 count-ends row i total v h w = let z = rw (packed-none (drop i row) (rw length-drop (omega arith))) at w in omega arith
 
-pub ruleset counting = (repeat-fits, repeat-less, repeat-total-fits, literal-fits, literal-less, literal-code-fits, literal-total-fits, count-starts, count-ends)
+pub ruleset counting = (three-known, same-fits, same-less, same-total-fits, plain-fits, plain-less, plain-code-fits, plain-total-fits, count-starts, count-ends)
 
 -- ---- what is written
 

@@ -163,23 +163,21 @@ fn piece_at(row: &[u8], i: usize) -> Piece
     Piece::Literal(plain_at(row, i))
 }
 
-// The length of the packed row.
+// The length of the packed row. It counts without `piece_at`, which has one caller and so is compiled into its loop.
 pub fn packed_len(row: &[u8]) -> usize
     ensures { λ r. ⌜ r ≡ length (packed (now (row .entry))) ⌝ }
 {
     let mut i = 0;
     let mut total = 0;
     while i < row.len() {
-        let piece = piece_at(row, i);
-        match piece {
-            Piece::Repeat(count) => {
-                i = i + count;
-                total = total + 2;
-            }
-            Piece::Literal(count) => {
-                i = i + count;
-                total = total + 1 + count;
-            }
+        if three_at(row, i) {
+            let count = same_at(row, i, row[i]);
+            i = i + count;
+            total = total + 2;
+        } else {
+            let count = plain_at(row, i);
+            i = i + count;
+            total = total + 1 + count;
         }
     }
     total

@@ -5,7 +5,7 @@ use mathlib.Core.Path.{_≡_}
 use lib.ListN.{length, drop}
 use borrow.Author.Needs.{needs}
 use Rattle.pack.specs.Pack.{packed}
-use Rattle.pack.proofs.Turns.{counting, repeat-counted, literal-counted}
+use Rattle.pack.proofs.Turns.{counting, same-counted, plain-counted}
 use Rattle.pack.proofs.packed_len.Statement.{statement}
 use Rattle.pack.proofs.packed_len.Tie as tie
 
@@ -18,11 +18,14 @@ abbrev μ-loop : tie.MeasureT-loop
 loop-holds : tie.Need-loop-holds Inv-loop μ-loop
 loop-holds c = search (counting, needs)
 
-piece-at-requires : tie.Need-piece-at-requires Inv-loop μ-loop
-piece-at-requires c κs = search (counting, needs)
+three-at-requires : tie.Need-three-at-requires Inv-loop μ-loop
+three-at-requires c κs = search (counting, needs)
 
-enum-known-piece : tie.Need-enum-known-piece Inv-loop μ-loop
-enum-known-piece c = search (counting, needs)
+shared-slice-read-same-at : tie.Need-shared-slice-read-same-at Inv-loop μ-loop
+shared-slice-read-same-at c = search (counting, needs)
+
+same-at-requires : tie.Need-same-at-requires Inv-loop μ-loop
+same-at-requires c κs = search (counting, needs)
 
 add-i : tie.Need-add-i Inv-loop μ-loop
 add-i c = search (counting, needs)
@@ -35,12 +38,12 @@ loop-less c = search (counting, needs)
 
 loop-again : tie.Need-loop-again Inv-loop μ-loop
 loop-again c =
-    let a = c .before in
-    let l = a .before .before .before .before .loop in
-    repeat-counted _ _ _ (a .before .before .piece-at .ensures) (a .before .before .before .loop-test .taken) _ (a .piece .given .1) _ _ (l .inv .1) (l .inv .2)
+    let a = c .before .before .before in
+    let l = a .before .before .loop in
+    same-counted _ _ _ (a .three-at .ensures) (a .before .loop-test .taken) _ (c .before .before .if1 .taken) (c .same-at .ensures) _ _ (l .inv .1) (l .inv .2)
 
-enum-known-piece-2 : tie.Need-enum-known-piece-2 Inv-loop μ-loop
-enum-known-piece-2 c = search (counting, needs)
+plain-at-requires : tie.Need-plain-at-requires Inv-loop μ-loop
+plain-at-requires c κs = search (counting, needs)
 
 add-i-2 : tie.Need-add-i-2 Inv-loop μ-loop
 add-i-2 c = search (counting, needs)
@@ -56,9 +59,9 @@ loop-less-2 c = search (counting, needs)
 
 loop-again-2 : tie.Need-loop-again-2 Inv-loop μ-loop
 loop-again-2 c =
-    let a = c .before in
-    let l = a .before .before .before .before .loop in
-    literal-counted _ _ _ (a .before .before .piece-at .ensures) (a .before .before .before .loop-test .taken) _ (a .piece2 .given .1) _ _ (l .inv .1) (l .inv .2)
+    let a = c .before .before in
+    let l = a .before .before .loop in
+    plain-counted _ _ _ (a .three-at .ensures) (a .before .loop-test .taken) _ (c .before .if1 .left) (c .plain-at .ensures) _ _ (l .inv .1) (l .inv .2)
 
 returns : tie.Need-returns Inv-loop μ-loop
 returns c = search (counting, needs)
@@ -70,13 +73,14 @@ packed-len-spec =
     Inv-loop
     μ-loop
     loop-holds
-    piece-at-requires
-    enum-known-piece
+    three-at-requires
+    shared-slice-read-same-at
+    same-at-requires
     add-i
     add-total
     loop-less
     loop-again
-    enum-known-piece-2
+    plain-at-requires
     add-i-2
     add-total-2
     add-total-3
