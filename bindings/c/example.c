@@ -10,23 +10,57 @@
 
 static const char *const kinds[] = {"", "FORM", "LIST", "CAT", "PROP", "LOCAL", "FILLER"};
 
-static void print_chunk(const uint8_t *file, size_t length, size_t number)
+/* A chunk's fields, each in a column of its own. */
+struct table {
+    size_t *numbers, *levels, *places, *sizes;
+    uint32_t *names;
+    uint8_t *kinds;
+};
+
+/* Four columns of size_t one after the other, then the names, then the kinds. */
+static void *lay_out(struct table *table, size_t chunks)
 {
-    size_t place, level, kind, at, size;
-    uint32_t name;
+    void *room = malloc(chunks * (4 * sizeof(size_t) + sizeof(uint32_t) + 1));
+
+    table->numbers = room;
+    table->levels = table->numbers + chunks;
+    table->places = table->levels + chunks;
+    table->sizes = table->places + chunks;
+    table->names = (uint32_t *)(table->sizes + chunks);
+    table->kinds = (uint8_t *)(table->names + chunks);
+    return room;
+}
+
+static void print_chunk(const struct table *table, size_t n)
+{
     int shift;
 
-    if (iff_record(file, length, number, &place, &level, &kind, &name, &at, &size) != 0)
-        return;
-    printf("chunk=%zu\nlevel=%zu\nkind=%s\nname=", number, level, kinds[kind]);
+    printf("chunk=%zu\nlevel=%zu\n", table->numbers[n], table->levels[n]);
+    printf("kind=%s\nname=", kinds[table->kinds[n]]);
     for (shift = 24; shift >= 0; shift -= 8)
-        putchar((int)(name >> shift & 255));
-    printf("\nat=%zu\nsize=%zu\n", at, size);
+        putchar((int)(table->names[n] >> shift & 255));
+    printf("\nat=%zu\nsize=%zu\n", table->places[n], table->sizes[n]);
+}
+
+static int print_chunks(const uint8_t *file, size_t length, size_t chunks)
+{
+    struct table table;
+    size_t place, told, n;
+    void *room = lay_out(&table, chunks);
+
+    if (room == NULL)
+        return 2;
+    iff_records(file, length, table.numbers, chunks, table.levels, chunks, table.kinds, chunks,
+                table.names, chunks, table.places, chunks, table.sizes, chunks, &place, &told);
+    for (n = 0; n < told; n++)
+        print_chunk(&table, n);
+    free(room);
+    return 0;
 }
 
 static int print_listing(const uint8_t *file, size_t length)
 {
-    size_t place, chunks, end, trailing, pictures, number;
+    size_t place, chunks, end, trailing, pictures;
     size_t answer = iff_check(file, length, &place, &chunks, &end, &trailing);
 
     printf("answer=%zu\nplace=%zu\n", answer, place);
@@ -35,9 +69,7 @@ static int print_listing(const uint8_t *file, size_t length)
     iff_count_pictures(file, length, &place, &pictures);
     printf("chunks=%zu\nend=%zu\ntrailing=%zu\n", chunks, end, trailing);
     printf("pictures=%zu\n", pictures);
-    for (number = 0; number < chunks; number++)
-        print_chunk(file, length, number);
-    return 0;
+    return print_chunks(file, length, chunks);
 }
 
 int main(int count, char **words)

@@ -63,7 +63,7 @@ size_t iff_check(const uint8_t *file, size_t file_length, size_t *place,
  * Tells one chunk of the file; chunks have the numbers from 0 in file order.
  * Refusals: 1 to 12, then 14 if there is no chunk with this number (place 0).
  * The file is checked and gone through up to the chunk, so a call takes time in
- * proportion to the file.
+ * proportion to the file; iff_records tells all chunks in that time.
  *
  *   file, file_length  the file
  *   number             the chunk's number
@@ -77,6 +77,30 @@ size_t iff_check(const uint8_t *file, size_t file_length, size_t *place,
 size_t iff_record(const uint8_t *file, size_t file_length, size_t number,
                   size_t *place, size_t *level, size_t *kind, uint32_t *name,
                   size_t *at, size_t *size);
+
+/*
+ * Tells all chunks of the file in one walk: a column for each field of a
+ * record, chunk n at place n of each. Refusals: 1 to 12, then 13 if the
+ * shortest column has fewer places than the file has chunks (place 0). A
+ * refusal changes no column, and places behind the last chunk stay as they
+ * are. iff_check tells how many places there must be.
+ *
+ *   file, file_length        the file
+ *   numbers, numbers_length  the chunks' numbers: 0, 1, 2, ..
+ *   levels, levels_length    their levels; the outermost has 1
+ *   kinds, kinds_length      each one of the kinds below
+ *   names, names_length      the names, or the types for groups, first byte highest
+ *   places, places_length    where their headers stand
+ *   sizes, sizes_length      the sizes that the headers tell
+ *   place                    out: the place of a refusal
+ *   chunks                   out: how many chunks there are
+ */
+size_t iff_records(const uint8_t *file, size_t file_length, size_t *numbers,
+                   size_t numbers_length, size_t *levels, size_t levels_length,
+                   uint8_t *kinds, size_t kinds_length, uint32_t *names,
+                   size_t names_length, size_t *places, size_t places_length,
+                   size_t *sizes, size_t sizes_length, size_t *place,
+                   size_t *chunks);
 
 enum {
     IFF_FORM = 1,

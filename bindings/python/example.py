@@ -6,8 +6,7 @@ import sys
 import florinhado
 
 
-def print_chunk(file, number):
-    record = florinhado.record(file, number)
+def print_chunk(number, record):
     print(f"chunk={number}\nlevel={record.level}\nkind={record.kind.name}")
     print(f"name={record.name.decode()}\nat={record.place}\nsize={record.size}")
 
@@ -23,8 +22,8 @@ def main():
     for key, value in accepted._asdict().items():
         print(f"{key}={value}")
     print(f"pictures={florinhado.count_pictures(file)}")
-    for number in range(accepted.chunks):
-        print_chunk(file, number)
+    for number, record in enumerate(florinhado.records(file)):
+        print_chunk(number, record)
     return 0
 
 

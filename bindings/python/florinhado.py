@@ -9,6 +9,8 @@ Accepted(chunks=1, end=12, trailing=0)
 Traceback (most recent call last):
     ...
 florinhado.Refused: refusal 7 at 0: size greater than what the group or file has left
+>>> [told.name for told in records(b"FORM\\0\\0\\0\\x10ILBMTINY\\0\\0\\0\\x03abc\\0")]
+[b'ILBM', b'TINY']
 >>> header(b"FORM\\0\\0\\0\\x04ILBM", 0)
 Traceback (most recent call last):
     ...
@@ -44,6 +46,7 @@ MEANINGS = {
     10: "a group of size under 4",
     11: "type not allowed",
     12: "second PROP of the same type in this LIST",
+    13: "fewer places in the table than chunks",
     14: "no such record",
     15: "a group, where a local chunk or filler is asked for",
     20: "no such picture",
@@ -193,6 +196,9 @@ def _declare(name, given, told, placed=True):
 _LIBRARY = _load()
 _iff_check = _declare("iff_check", _BYTES, [_SIZE] * 3)
 _iff_record = _declare("iff_record", _BYTES + [_SIZE], [_SIZE] * 2 + [_LONG] + [_SIZE] * 2)
+_COLUMNS = [_SIZE] * 2 + [_BYTE, _LONG] + [_SIZE] * 2
+_LENT = [kind for column in _COLUMNS for kind in (ctypes.POINTER(column), _SIZE)]
+_iff_records = _declare("iff_records", _BYTES + _LENT, [_SIZE])
 _iff_data = _declare("iff_data", _BYTES + [_SIZE], [_SIZE] * 2)
 _iff_clean_copy = _declare("iff_clean_copy", _BYTES * 2, [_SIZE])
 _iff_count_pictures = _declare("iff_count_pictures", _BYTES, [_SIZE])
@@ -219,11 +225,24 @@ def check(file):
     return Accepted(*_iff_check(file, len(file)))
 
 
+def _record(level, kind, name, place, size):
+    return Record(level, Kind(kind), name.to_bytes(4, "big"), place, size)
+
+
 def record(file, number):
     """The chunk with this number; Refused with 14 if there is none."""
     file = bytes(file)
-    level, kind, name, place, size = _iff_record(file, len(file), number)
-    return Record(level, Kind(kind), name.to_bytes(4, "big"), place, size)
+    return _record(*_iff_record(file, len(file), number))
+
+
+def records(file):
+    """All chunks in file order, in time in proportion to the file."""
+    file = bytes(file)
+    room = check(file).chunks
+    columns = [(kind * room)() for kind in _COLUMNS]
+    _iff_records(file, len(file), *[part for column in columns for part in (column, room)])
+    _numbers, *fields = columns
+    return [_record(*told) for told in zip(*fields)]
 
 
 def data(file, number):

@@ -1,24 +1,10 @@
-//! The reader and the table of records, by the archive of the crate `listings`,
-//! and a plain walk that fills the same table.
+//! The reader, by the archive of the crate `listings`, the table of records, by
+//! the library, and a plain walk that fills the same table.
+
+use florinhado::calls;
 
 extern "C" {
     fn listing_read(file: *const u8, length: usize) -> usize;
-    fn listing_fill(
-        file: *const u8,
-        length: usize,
-        numbers: *mut usize,
-        numbers_length: usize,
-        levels: *mut usize,
-        levels_length: usize,
-        kinds: *mut u8,
-        kinds_length: usize,
-        names: *mut u32,
-        names_length: usize,
-        places: *mut usize,
-        places_length: usize,
-        sizes: *mut usize,
-        sizes_length: usize,
-    ) -> usize;
 }
 
 /// One column for each field of a record.
@@ -51,26 +37,20 @@ pub fn read(file: &[u8]) -> usize {
     unsafe { listing_read(file.as_ptr(), file.len()) }
 }
 
-/// Fills the table: 0, or the number of a refusal.
+/// Fills the table by the exported call: 0, or the number of a refusal.
 pub fn fill(file: &[u8], table: &mut Table) -> usize {
-    unsafe {
-        listing_fill(
-            file.as_ptr(),
-            file.len(),
-            table.numbers.as_mut_ptr(),
-            table.numbers.len(),
-            table.levels.as_mut_ptr(),
-            table.levels.len(),
-            table.kinds.as_mut_ptr(),
-            table.kinds.len(),
-            table.names.as_mut_ptr(),
-            table.names.len(),
-            table.places.as_mut_ptr(),
-            table.places.len(),
-            table.sizes.as_mut_ptr(),
-            table.sizes.len(),
-        )
-    }
+    let (mut place, mut chunks) = (0, 0);
+    calls::iff_records(
+        file,
+        &mut table.numbers,
+        &mut table.levels,
+        &mut table.kinds,
+        &mut table.names,
+        &mut table.places,
+        &mut table.sizes,
+        &mut place,
+        &mut chunks,
+    )
 }
 
 fn word(file: &[u8], at: usize) -> u32 {
@@ -79,12 +59,12 @@ fn word(file: &[u8], at: usize) -> u32 {
 
 fn kind(name: u32) -> u8 {
     match &name.to_be_bytes() {
-        b"FORM" => 0,
-        b"LIST" => 1,
-        b"CAT " => 2,
-        b"PROP" => 3,
-        b"    " => 5,
-        _ => 4,
+        b"FORM" => 1,
+        b"LIST" => 2,
+        b"CAT " => 3,
+        b"PROP" => 4,
+        b"    " => 6,
+        _ => 5,
     }
 }
 
@@ -97,7 +77,7 @@ pub fn plain(file: &[u8], table: &mut Table) -> usize {
         let name = word(file, at);
         let size = word(file, at + 4) as usize;
         let kind = kind(name);
-        let group = kind < 4;
+        let group = kind < 5;
         table.numbers[number] = number;
         table.levels[number] = ends.len() + 1;
         table.kinds[number] = kind;

@@ -49,18 +49,23 @@ fn exported(
 }
 
 fn wrapped(file: &[u8], number: usize, wanted: Result<Record, Refused>) -> Outcome {
-    let wanted = wanted.map(|record| florinhado::Record {
+    same("record", florinhado::record(file, number), wanted.map(in_library).map_err(refused))
+}
+
+/// The second reader's record in the library's type.
+pub fn in_library(record: Record) -> florinhado::Record {
+    florinhado::Record {
         number: record.number,
         level: record.level,
         kind: kind(record.kind),
         name: record.name.0,
         place: record.place,
         size: record.size,
-    });
-    same("record", florinhado::record(file, number), wanted.map_err(refused))
+    }
 }
 
-fn kind_number(kind: second::Kind) -> usize {
+/// The number that the library tells a kind by.
+pub fn kind_number(kind: second::Kind) -> usize {
     match kind {
         second::Kind::Form => 1,
         second::Kind::List => 2,

@@ -1,12 +1,14 @@
-//! listing_fill, the table of records by columns.
+//! iff_records, the table of all records by columns.
 
-use crate::borrowed::same;
+use crate::borrowed::{numbers, refused, same};
 use crate::listings::{fill, Table};
+use crate::record::{in_library, kind_number};
 use crate::{Call, Outcome, Subject, Tally};
+use florinhado::calls;
 use second::random::Random;
-use second::{Kind, Record};
+use second::Record;
 
-const NAME: &str = "listing_fill";
+const NAME: &str = "iff_records";
 
 pub const CALL: Call =
     Call { name: NAME, numbers: &[0, 1, 2, 3, 4, 5, 6, 7, 8, 9, 10, 11, 12, 13], compare, run };
@@ -16,47 +18,119 @@ fn run(file: &[u8]) {
     assert_eq!(fill(file, &mut Table::new(chunks)), 0);
 }
 
-/// A table with as many places as there are chunks, with fewer and with more.
+/// Tables with as many places as there are chunks, one fewer, any fewer, more,
+/// and with one column that is too short.
 fn compare(subject: &Subject, random: &mut Random, tally: &mut Tally) -> Outcome {
     let count = subject.records.as_ref().map_or(0, Vec::len);
-    for places in [count, random.below(count + 1), count + 1 + random.below(5)] {
-        let mut table = Table::new(places);
-        let number = fill(subject.file(), &mut table);
-        let (wanted, number_wanted) = wanted(subject, places);
-        same("number", number, number_wanted)?;
-        if table != wanted {
-            return Err(format!("the table of {places} places differs"));
-        }
-        tally.add(NAME, number);
+    let fewer = count.saturating_sub(1);
+    let mut one_short = longer(random, count);
+    one_short[random.below(6)] = fewer;
+    let tables = [[count; 6], [fewer; 6], [random.below(count + 1); 6], longer(random, count), one_short];
+    for lengths in tables {
+        let told = Lent::new(random, lengths).compare(subject, random);
+        tally.add(NAME, told.map_err(|text| format!("columns of {lengths:?}: {text}"))?);
     }
-    Ok(())
+    let wanted = subject.records.as_ref().map(|records| records.iter().copied().map(in_library).collect());
+    same("records", florinhado::records(subject.file()), wanted.map_err(|told| refused(*told)))
 }
 
-/// What the second reader's records make of a table, and the number told.
-fn wanted(subject: &Subject, places: usize) -> (Table, usize) {
-    let mut table = Table::new(places);
-    match &subject.records {
-        Ok(records) if records.len() <= places => {
-            records.iter().enumerate().for_each(|(place, record)| put(&mut table, place, record));
-            (table, 0)
+/// Columns of different lengths, each with a place for every chunk.
+fn longer(random: &mut Random, count: usize) -> [usize; 6] {
+    std::array::from_fn(|_| count + random.below(6))
+}
+
+/// Elements on either side of a column that belong to nobody.
+const MARGIN: usize = 3;
+
+/// A column among other elements, all with the same value.
+struct Column<T> {
+    elements: Vec<T>,
+    before: T,
+}
+
+impl<T: Copy + PartialEq> Column<T> {
+    fn new(before: T, length: usize) -> Column<T> {
+        Column { elements: vec![before; length + 2 * MARGIN], before }
+    }
+
+    fn slice(&mut self) -> &mut [T] {
+        let end = self.elements.len() - MARGIN;
+        &mut self.elements[MARGIN..end]
+    }
+
+    /// Fails unless the column begins with the field of each record and no other element is changed.
+    fn compare(&self, what: &str, records: &[Record], field: fn(&Record) -> T) -> Outcome {
+        let wanted = |n: usize| n.checked_sub(MARGIN).and_then(|n| records.get(n)).map_or(self.before, field);
+        match (0..self.elements.len()).find(|n| self.elements[*n] != wanted(*n)) {
+            Some(n) => Err(format!("{what} differ at {}", n as isize - MARGIN as isize)),
+            None => Ok(()),
         }
-        Ok(_) => (table, 13),
-        Err(refused) => (table, refused.number as usize),
     }
 }
 
-fn put(table: &mut Table, place: usize, record: &Record) {
-    table.numbers[place] = record.number;
-    table.levels[place] = record.level;
-    table.kinds[place] = match record.kind {
-        Kind::Form => 0,
-        Kind::List => 1,
-        Kind::Cat => 2,
-        Kind::Prop => 3,
-        Kind::Local => 4,
-        Kind::Filler => 5,
-    };
-    table.names[place] = u32::from_be_bytes(record.name.0);
-    table.places[place] = record.place;
-    table.sizes[place] = record.size;
+/// A table to lend.
+struct Lent {
+    numbers: Column<usize>,
+    levels: Column<usize>,
+    kinds: Column<u8>,
+    names: Column<u32>,
+    places: Column<usize>,
+    sizes: Column<usize>,
+    /// How many places the shortest column has.
+    room: usize,
+}
+
+impl Lent {
+    /// Columns of these lengths, with any values in them.
+    fn new(random: &mut Random, lengths: [usize; 6]) -> Lent {
+        let room = lengths.into_iter().min().unwrap();
+        let [numbers, levels, kinds, names, places, sizes] = lengths;
+        Lent {
+            numbers: Column::new(random.word() as usize, numbers),
+            levels: Column::new(random.word() as usize, levels),
+            kinds: Column::new(random.byte(), kinds),
+            names: Column::new(random.word() as u32, names),
+            places: Column::new(random.word() as usize, places),
+            sizes: Column::new(random.word() as usize, sizes),
+            room,
+        }
+    }
+
+    /// Makes the call, compares all that it tells and writes, and gives its answer.
+    fn compare(mut self, subject: &Subject, random: &mut Random) -> Result<usize, String> {
+        let [mut place, mut chunks] = numbers(random);
+        let (told, put) = self.wanted(subject);
+        let number = calls::iff_records(
+            subject.file(),
+            self.numbers.slice(),
+            self.levels.slice(),
+            self.kinds.slice(),
+            self.names.slice(),
+            self.places.slice(),
+            self.sizes.slice(),
+            &mut place,
+            &mut chunks,
+        );
+        same("number, place, chunks", [number, place, chunks], told)?;
+        self.holds(put)?;
+        Ok(number)
+    }
+
+    /// The number, place and count that are to be told, and the records to be put.
+    fn wanted<'a>(&self, subject: &'a Subject) -> ([usize; 3], &'a [Record]) {
+        match &subject.records {
+            Ok(records) if records.len() <= self.room => ([0, 0, records.len()], records),
+            Ok(_) => ([13, 0, 0], &[]),
+            Err(refused) => ([refused.number as usize, refused.place, 0], &[]),
+        }
+    }
+
+    fn holds(&self, records: &[Record]) -> Outcome {
+        self.numbers.compare("numbers", records, |record| record.number)?;
+        self.levels.compare("levels", records, |record| record.level)?;
+        self.kinds.compare("kinds", records, |record| kind_number(record.kind) as u8)?;
+        self.names.compare("names", records, |record| u32::from_be_bytes(record.name.0))?;
+        self.places.compare("places", records, |record| record.place)?;
+        self.sizes.compare("sizes", records, |record| record.size)
+    }
 }

@@ -1,5 +1,5 @@
 //! The exported calls in the shapes that the library gives them: numbers and
-//! byte slices. Each returns 0, or the number of a refusal, and writes every
+//! slices. Each returns 0, or the number of a refusal, and writes every
 //! number behind a reference. The other functions of this package are built on these.
 #![allow(unsafe_code)]
 
@@ -24,6 +24,25 @@ mod exported {
             name: &mut u32,
             at: &mut usize,
             size: &mut usize,
+        ) -> usize;
+
+        pub fn iff_records(
+            file: *const u8,
+            file_length: usize,
+            numbers: *mut usize,
+            numbers_length: usize,
+            levels: *mut usize,
+            levels_length: usize,
+            kinds: *mut u8,
+            kinds_length: usize,
+            names: *mut u32,
+            names_length: usize,
+            places: *mut usize,
+            places_length: usize,
+            sizes: *mut usize,
+            sizes_length: usize,
+            place: &mut usize,
+            chunks: &mut usize,
         ) -> usize;
 
         pub fn iff_data(
@@ -210,6 +229,43 @@ pub fn iff_record(
     size: &mut usize,
 ) -> usize {
     unsafe { exported::iff_record(file.as_ptr(), file.len(), number, place, level, kind, name, at, size) }
+}
+
+/// Tells all records, a column for each field: 0, or 1 to 12 with the place, or
+/// 13 if the shortest column has fewer places than there are chunks. The kinds
+/// are as above; places behind the last chunk stay as they are.
+#[allow(clippy::too_many_arguments)]
+pub fn iff_records(
+    file: &[u8],
+    numbers: &mut [usize],
+    levels: &mut [usize],
+    kinds: &mut [u8],
+    names: &mut [u32],
+    places: &mut [usize],
+    sizes: &mut [usize],
+    place: &mut usize,
+    chunks: &mut usize,
+) -> usize {
+    unsafe {
+        exported::iff_records(
+            file.as_ptr(),
+            file.len(),
+            numbers.as_mut_ptr(),
+            numbers.len(),
+            levels.as_mut_ptr(),
+            levels.len(),
+            kinds.as_mut_ptr(),
+            kinds.len(),
+            names.as_mut_ptr(),
+            names.len(),
+            places.as_mut_ptr(),
+            places.len(),
+            sizes.as_mut_ptr(),
+            sizes.len(),
+            place,
+            chunks,
+        )
+    }
 }
 
 /// Tells where a local chunk's or a filler's data lies: 0, or 1 to 12 with

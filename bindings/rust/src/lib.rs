@@ -43,6 +43,6 @@ pub use palette::palette;
 pub use pictures::count_pictures;
 pub use properties::{destination, grab, header, sprite, view_mode};
 pub use properties::{Destination, Header, HotSpot, Origin, Property};
-pub use record::{record, Kind, Record};
+pub use record::{record, records, Kind, Record};
 pub use rows::{frame, scan_line};
 pub use write::write;

@@ -1,7 +1,8 @@
-//! The records of a file, asked for by their numbers.
+//! The records of a file: all of them, or one by its number.
 
 use crate::answer::{answer, Refused};
 use crate::calls;
+use crate::check::check;
 
 /// What a chunk is.
 #[derive(Clone, Copy, Debug, PartialEq, Eq, Hash)]
@@ -55,7 +56,45 @@ pub struct Record {
     pub size: usize,
 }
 
-/// The record with this number; 1 to 12, or 14 if there is none.
+/// All records in file order; 1 to 12. The time is in proportion to the file.
+///
+/// ```
+/// use florinhado::records;
+/// let file = b"FORM\0\0\0\x10ILBMTINY\0\0\0\x03abc\0";
+/// let names: Vec<_> = records(file)?.iter().map(|record| record.name).collect();
+/// assert_eq!(names, [*b"ILBM", *b"TINY"]);
+/// # Ok::<(), florinhado::Refused>(())
+/// ```
+pub fn records(file: &[u8]) -> Result<Vec<Record>, Refused> {
+    let room = check(file)?.chunks;
+    let [mut numbers, mut levels, mut places, mut sizes] = [0; 4].map(|zero| vec![zero; room]);
+    let (mut kinds, mut names) = (vec![0; room], vec![0; room]);
+    let (mut place, mut chunks) = (0, 0);
+    let told = calls::iff_records(
+        file,
+        &mut numbers,
+        &mut levels,
+        &mut kinds,
+        &mut names,
+        &mut places,
+        &mut sizes,
+        &mut place,
+        &mut chunks,
+    );
+    let record = |n: usize| Record {
+        number: numbers[n],
+        level: levels[n],
+        kind: Kind::of(kinds[n].into()),
+        name: names[n].to_be_bytes(),
+        place: places[n],
+        size: sizes[n],
+    };
+    answer(told, place, ())?;
+    Ok((0..chunks).map(record).collect())
+}
+
+/// The record with this number; 1 to 12, or 14 if there is none. Each call goes
+/// through the file; [`records`] tells all in about the same time.
 ///
 /// ```
 /// use florinhado::{record, Kind};

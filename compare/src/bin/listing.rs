@@ -5,7 +5,7 @@
 use compare::listings::{fill, plain, read, Table};
 use compare::shapes::{now, Count, Make, SHAPES};
 
-const TURNS: usize = 5;
+const TURNS: usize = 15;
 const GROWTH: f64 = 2.3;
 
 /// A file, its number of chunks, the tables that it is listed in, and the least times of the reader, the table and the plain walk.

@@ -38,12 +38,12 @@ fn fill(file: &mut [u8], table: &mut [Record]) {
     unsafe { records_fill(&mut answer, &file, &table) }
 }
 
-/// The number of a kind, from the compiler's, which has filler before local chunks.
+/// The number of a kind, from the compiler's, which begins with 0 and has filler before local chunks.
 fn kind_number(kind: u8) -> u8 {
     match kind {
-        4 => 5,
-        5 => 4,
-        other => other,
+        4 => 6,
+        5 => 5,
+        other => other + 1,
     }
 }
 

@@ -5,23 +5,13 @@ use mathlib.Core.List.{List, [], _∷_}
 use lib.Dec.{leb}
 use lib.ListN.{length}
 use Rattle.name.specs.Name.{pick}
-use Rattle.name.specs.declared.Kind.{Kind}
-use Rattle.name.specs.declared.Kind.the-variants.{FORM, LIST, CAT, PROP, LOCAL, FILLER}
+use Rattle.told.specs.Told.{kindNumber}
 use Rattle.chunk.specs.Chunks.{Chunk, before, none, count}
 use Rattle.tree.specs.Judge.{Found, found, refused, readFile, checkOf}
 use Rattle.tree.specs.declared.Verdict.{Verdict}
 use Rattle.tree.specs.declared.Verdict.the-variants.{Accepted, Refused}
 use Rattle.listing.specs.declared.Record.{Record}
 use Rattle.listing.specs.Records.{recordsOf}
-
--- "kind (FORM, LIST, CAT, PROP, local, filler)", as a number in that order
-abbrev pub kindNumber : Kind → ℕ
-kindNumber FORM = 0
-kindNumber LIST = 1
-kindNumber CAT = 2
-kindNumber PROP = 3
-kindNumber LOCAL = 4
-kindNumber FILLER = 5
 
 -- the fields of a record as a table has them
 

@@ -8,8 +8,8 @@ ghost use lib.ListN.{length, set};
 ghost use Rattle.tree.specs.Judge.{readFile};
 ghost use Rattle.listing.specs.Records.{countOf};
 ghost use Rattle.cursor.specs.Cursors.{firstCursor, Located};
+ghost use Rattle.told.specs.Told.{kindNumber};
 ghost use Rattle.table.specs.Table.{
-  kindNumber,
   numberOf,
   levelOf,
   kindNumberOf,
@@ -22,17 +22,17 @@ ghost use Rattle.table.specs.Table.{
   Filled,
 };
 
-// The number of a kind in a table.
+// The number of a kind, in a byte of a table.
 fn kind_number(k: Kind) -> u8
     ensures { λ r. ⌜ r ≡ kindNumber k ⌝ }
 {
     match k {
-        Kind::FORM => 0,
-        Kind::LIST => 1,
-        Kind::CAT => 2,
-        Kind::PROP => 3,
-        Kind::LOCAL => 4,
-        Kind::FILLER => 5,
+        Kind::FORM => 1,
+        Kind::LIST => 2,
+        Kind::CAT => 3,
+        Kind::PROP => 4,
+        Kind::LOCAL => 5,
+        Kind::FILLER => 6,
     }
 }
 

@@ -1,17 +1,17 @@
--- `listing_fill` meets its contract: the table is filled, and the refusal, if any, is told by its number.
+-- Each way through the code takes the same branch of the definition; what the table holds is `fill_table`'s own claim.
 use borrow.Author.Needs.{needs}
-use Rattle.listings.proofs.FillLaws.{fill-laws}
-use Rattle.listings.proofs.listing_fill.Statement.{statement}
-use Rattle.listings.proofs.listing_fill.Tie as tie
+use Rattle.table_calls.proofs.TableTold.{table-told}
+use Rattle.table_calls.proofs.iff_records.Statement.{statement}
+use Rattle.table_calls.proofs.iff_records.Tie as tie
 
 fill-table-requires : tie.Need-fill-table-requires
 fill-table-requires c κs = search needs
 
-enum-told : tie.Need-enum-told
-enum-told c = search needs
-
 enum-known-v : tie.Need-enum-known-v
 enum-known-v c = search needs
+
+enum-known-v-2 : tie.Need-enum-known-v-2
+enum-known-v-2 c = search needs
 
 same-length : tie.Need-same-length
 same-length c = search needs
@@ -32,7 +32,7 @@ same-length-6 : tie.Need-same-length-6
 same-length-6 c = search needs
 
 returns : tie.Need-returns
-returns c = search (fill-laws, needs)
+returns c = search (table-told, needs)
 
 same-length-7 : tie.Need-same-length-7
 same-length-7 c = search needs
@@ -53,15 +53,15 @@ same-length-12 : tie.Need-same-length-12
 same-length-12 c = search needs
 
 returns-2 : tie.Need-returns-2
-returns-2 c = search (fill-laws, needs)
+returns-2 c = search (table-told, needs)
 
-pub listing-fill-spec : {M : Type 1} → statement M
-listing-fill-spec =
+pub iff-records-spec : {M : Type 1} → statement M
+iff-records-spec =
     tie.close
     (tie.spec
     fill-table-requires
-    enum-told
     enum-known-v
+    enum-known-v-2
     same-length
     same-length-2
     same-length-3
