@@ -1,4 +1,4 @@
--- Each way through the code takes the same branch of the definition.
+-- The four bytes lie in the file, as is required, and the callee joins them as `word` does.
 use Rattle.chunk.specs.Chunks.{word}
 use borrow.Author.Needs.{needs}
 use Rattle.chunk.proofs.size_at.Statement.{statement}

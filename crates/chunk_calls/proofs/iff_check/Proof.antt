@@ -1,4 +1,4 @@
--- Each way through the code takes the same branch of the definition.
+-- By the cases of the verdict: its values are stored, or 0 beside a refusal.
 use Rattle.chunk_calls.proofs.Told.{check-accepted, check-refused}
 use borrow.Author.Needs.{needs}
 use Rattle.chunk_calls.proofs.iff_check.Statement.{statement}

@@ -1,4 +1,4 @@
--- Each way through the code takes the same branch of the definition.
+-- By the cases of the answer of `clean_copy`, which settles the buffer.
 use Rattle.chunk_calls.proofs.Told.{copy-written, copy-refused}
 use borrow.Author.Needs.{needs}
 use Rattle.chunk_calls.proofs.iff_clean_copy.Statement.{statement}

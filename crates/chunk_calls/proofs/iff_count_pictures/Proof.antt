@@ -1,4 +1,4 @@
--- Each way through the code takes the same branch of the definition.
+-- By the cases of the answer of `count_pictures`: the count is stored, or 0 beside a refusal.
 use Rattle.chunk_calls.proofs.Told.{pictures-counted, count-refused}
 use borrow.Author.Needs.{needs}
 use Rattle.chunk_calls.proofs.iff_count_pictures.Statement.{statement}

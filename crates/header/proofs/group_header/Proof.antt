@@ -1,4 +1,4 @@
--- Each way through the code takes the same branch of the definition; the places it reads lie inside by laws of HeaderLaws.antt.
+-- 9, 10, 11 and 12 are tested in that order; a size of 4 or more keeps the type inside the file when it is read.
 use mathlib.Core.Path.{refl}
 use native.Mathlib.Omega.{arith}
 use Rattle.header.proofs.HeaderLaws.{refuse-9, refuse-10, refuse-11, refuse-12, group-sound}

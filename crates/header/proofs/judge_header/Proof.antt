@@ -1,4 +1,4 @@
--- Each way through the code takes the same branch of the definition; the places it reads lie inside by laws of HeaderLaws.antt.
+-- 4, 5, 3 and 6 are tested in that order; 8 bytes up to the end keep the name and the size inside when they are read.
 use Rattle.header.proofs.HeaderLaws.{refuse-4, refuse-3, refuse-6, refuse-5, well-named, kind-at}
 use borrow.Author.Needs.{needs}
 use Rattle.header.proofs.judge_header.Statement.{statement}

@@ -1,4 +1,4 @@
--- Each way through the code takes the same branch of the definition; the places it reads lie inside by laws of HeaderLaws.antt.
+-- 7 and 8 are tested in that order: the size made even is the size and its pad. What passes lies before the end of its parent.
 use Rattle.header.proofs.HeaderLaws.{refuse-7, refuse-8, of-group, group-fits, of-leaf, leaf-fits}
 use borrow.Author.Needs.{needs}
 use Rattle.header.proofs.sized_header.Statement.{statement}

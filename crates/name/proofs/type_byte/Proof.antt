@@ -1,4 +1,4 @@
--- Each way through the code takes the same branch of the definition.
+-- The code joins the three tests as the definition does.
 use Rattle.name.proofs.type_byte.Statement.{statement}
 use Rattle.name.proofs.type_byte.Tie as tie
 use Rattle.name.proofs.type_byte.Reads as reads

@@ -1,4 +1,4 @@
--- Each way through the code takes the same branch of the definition; the places it reads lie inside by laws of Laws.antt.
+-- The name and the type lie in the 12 bytes that are required; the two tests are those of the definition.
 use Rattle.props.proofs.ScanLaws.{laws}
 use borrow.Author.Needs.{needs}
 use Rattle.props.proofs.prop_at.Statement.{statement}

@@ -1,4 +1,4 @@
--- Each way through the code takes the same branch of the definition.
+-- By the kind: a FORM or PROP asks for a type, a LIST or CAT for a name.
 use borrow.Author.Needs.{needs}
 use Rattle.rules.proofs.group_type.Statement.{statement}
 use Rattle.rules.proofs.group_type.Tie as tie

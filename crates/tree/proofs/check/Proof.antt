@@ -1,4 +1,4 @@
--- Each way through the code takes the same branch of the definition; the places it reads lie inside by laws of WalkLaws.antt.
+-- 1, 2 and 3 are tested in that order; what is left is judged as the outermost chunk.
 use Rattle.tree.proofs.WalkLaws.{file-laws}
 use borrow.Author.Needs.{needs}
 use Rattle.tree.proofs.check.Statement.{statement}

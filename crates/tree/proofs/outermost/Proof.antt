@@ -1,4 +1,5 @@
--- Each way through the code takes the same branch of the definition; the places it reads lie inside by laws of WalkLaws.antt.
+-- What `member` tells of the chunk at 0, with 16 levels left and the file's end as its parent's; it ends inside, so that the rest
+-- can be counted.
 use Rattle.tree.proofs.WalkLaws.{file-laws}
 use Rattle.tree.proofs.WayLaws.{way-laws}
 use borrow.Author.Needs.{needs}
