@@ -1,4 +1,4 @@
--- Each way through the code takes the same branch of the definition; what the table holds is `fill_table`'s own claim.
+-- By the cases of the verdict: the count is stored, or 0 beside a refusal; what the table holds is `fill_table`'s own claim.
 use borrow.Author.Needs.{needs}
 use Rattle.table_calls.proofs.TableTold.{table-told}
 use Rattle.table_calls.proofs.iff_records.Statement.{statement}
