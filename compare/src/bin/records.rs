@@ -41,9 +41,9 @@ fn fill(file: &mut [u8], table: &mut [Record]) {
 /// The number of a kind, from the compiler's, which begins with 0 and has filler before local chunks.
 fn kind_number(kind: u8) -> u8 {
     match kind {
+        0..=3 => kind + 1,
         4 => 6,
-        5 => 5,
-        other => other + 1,
+        other => other,
     }
 }
 
