@@ -10,7 +10,7 @@ ghost use mathlib.Core.Path.{_≡_};
 ghost use Rattle.members.specs.Members.{fromOf};
 ghost use Rattle.answers.specs.Properties.{originNumber, sharedPlace, headerTold, grabTold, destinationTold, spriteTold, viewModeTold, toOf, paletteParts};
 
-pub fn origin_number(o: Origin) -> usize
+fn origin_number(o: Origin) -> usize
     ensures { λ r. ⌜ r ≡ originNumber o ⌝ }
 {
     match o {
@@ -20,7 +20,7 @@ pub fn origin_number(o: Origin) -> usize
     }
 }
 
-pub fn shared_place(o: Origin) -> usize
+fn shared_place(o: Origin) -> usize
     ensures { λ r. ⌜ r ≡ sharedPlace o ⌝ }
 {
     match o {
@@ -220,7 +220,7 @@ pub fn view_mode_told(v: PictureAnswer) -> ViewModeTold
     }
 }
 
-pub fn part_from(part: Part) -> usize
+fn part_from(part: Part) -> usize
     ensures { λ r. ⌜ r ≡ fromOf part ⌝ }
 {
     match part {
@@ -229,7 +229,7 @@ pub fn part_from(part: Part) -> usize
     }
 }
 
-pub fn part_to(part: Part) -> usize
+fn part_to(part: Part) -> usize
     ensures { λ r. ⌜ r ≡ toOf part ⌝ }
 {
     match part {
