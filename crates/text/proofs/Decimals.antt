@@ -50,18 +50,22 @@ ten-at-least n i f =
     let low : 10 ^ i * 10 ≤ n = simp unary-clauses at (f .2 (omega arith)) in
     omega arith
 
-spelled-up-to : (j k n : ℕ) → n ≤ k → Fewest 10 1 n (suc j) → digits 10 (suc j) n ≡ decimalUpTo k n
+spelled-up-to : (j k n : ℕ) → n < 10 ^ suc k → Fewest 10 1 n (suc j) → digits 10 (suc j) n ≡ decimalUpTo k n
 unfolding decimalUpTo
 spelled-up-to zero zero n h f = ap (λ (d : ℕ). d ∷ []) (digit (n % 10) (omega arith))
 spelled-up-to zero (suc k) n h f =
     let u : n < 10 = f .1 in
     let m : n % 10 ≡ n = omega arith in
     rw (under-ten n u) (ap (λ (d : ℕ). d ∷ []) (digit (n % 10) (omega arith) ∙ ap (λ (d : ℕ). 48 + d) m))
-spelled-up-to (suc i) zero n h f = let t = ten-at-least n i f in absurd (omega arith)
+spelled-up-to (suc i) zero n h f =
+    let t = ten-at-least n i f in
+    let u : n < 10 = h in
+    absurd (omega arith)
 spelled-up-to (suc i) (suc k) n h f =
     let t = ten-at-least n i f in
+    let p : 10 ^ suc (suc k) ≡ 10 ^ suc k * 10 = pow-suc 10 (suc k) in
     rw (ten-or-more n t, digit (n % 10) (omega arith), spelled-up-to i k (n / 10) (omega arith) (tenth n i f))
 
-pub spelled : (n k : ℕ) → Fewest 10 1 n k → digits 10 k n ≡ decimal n
-spelled n zero f = absurd (omega (arith, f .0))
-spelled n (suc j) f = spelled-up-to j n n (omega arith) f
+pub spelled : (n k : ℕ) → n < 2 ^ 64 → Fewest 10 1 n k → digits 10 k n ≡ decimal n
+spelled n zero h f = absurd (omega (arith, f .0))
+spelled n (suc j) h f = spelled-up-to j 19 n (omega arith) f

@@ -1,5 +1,5 @@
 -- Texts that are put one behind another are put as one text; so are the lines of a number, a kind and a name, and the lines of a record.
-use Prim.Native.Nat.{ℕ, _+_, _%_, _/_, _<_}
+use Prim.Native.Nat.{ℕ, _+_, _%_, _/_, _^_, _<_}
 use mathlib.Core.Path.{_≡_, refl, sym, ap, _∙_}
 use mathlib.Core.List.{List, [], _∷_, _++_, append-assoc}
 use native.Mathlib.Omega.{arith}
@@ -7,8 +7,8 @@ use lib.ListN.{length, take, length-append}
 use Rattle.io.specs.Digits.{Fewest, digits}
 use Rattle.name.specs.declared.Kind.{Kind}
 use Rattle.name.specs.Name.{byte0, byte1, byte2, byte3}
-use Rattle.text.specs.Text.{Puts, line, numberLine, kindText, kindLine, nameLine, recordText, refusalText, headText}
-use Rattle.text.specs.Text.{chunk=, level=, kind=, name=, at=, size=, answer=, place=, chunks=, end=, trailing=, pictures=}
+use Rattle.text.specs.Text.{Puts, Begins, line, numberLine, kindText, kindLine, nameLine, recordText, refusalText, headText}
+use Rattle.text.specs.Text.{chunk=, level=, kind=, name=, at=, size=, chunks=, end=, trailing=, pictures=}
 use Rattle.text.proofs.Decimals.{spelled}
 
 pub behind : (o m e x y : List ℕ) (at a r : ℕ) → Puts o at x m a → Puts m a y e r → Puts o at (x ++ y) e r
@@ -20,19 +20,19 @@ two-behind : (o m e x y z : List ℕ) (at a r : ℕ) → Puts o at x m a → Put
 two-behind o m e x y z at a r h k = let l : Puts o at (x ++ (y ++ z)) e r = behind o m e x (y ++ z) at a r h k in rw (append-assoc x y z) l
 
 -- a text that is put at the buffer's start
-from-start : (o e x : List ℕ) (r : ℕ) → Puts o 0 x e r → (r ≡ length x) × (take r e ≡ x)
+from-start : (o e x : List ℕ) (r : ℕ) → Puts o 0 x e r → Begins e x r
 from-start o e x r h = (omega (arith, h .0), h .1)
 
-at-start : (o e x : List ℕ) (r : ℕ) → (r ≡ length x) × (take r e ≡ x) → Puts o 0 x e r
+at-start : (o e x : List ℕ) (r : ℕ) → Begins e x r → Puts o 0 x e r
 at-start o e x r h = (omega (arith, h .0), h .1)
 
 pub number-put :
-    (o m₁ m₂ e label ds : List ℕ) (at a b r n k : ℕ) → Fewest 10 1 n k → ds ≡ digits 10 k n →
+    (o m₁ m₂ e label ds : List ℕ) (at a b r n k : ℕ) → n < 2 ^ 64 → Fewest 10 1 n k → ds ≡ digits 10 k n →
     Puts o at label m₁ a → Puts m₁ a ds m₂ b → Puts m₂ b (10 ∷ []) e r → Puts o at (numberLine label n) e r
 unfolding numberLine
-number-put o m₁ m₂ e label ds at a b r n k f d p q s =
+number-put o m₁ m₂ e label ds at a b r n k h f d p q s =
     let l : Puts o at (label ++ ds ++ (10 ∷ [])) e r = behind o m₂ e (label ++ ds) (10 ∷ []) at b r (behind o m₁ m₂ label ds at a b p q) s in
-    rw (sym (spelled n k f), sym d) l
+    rw (sym (spelled n k h f), sym d) l
 
 pub kind-put : (o e : List ℕ) (at r : ℕ) (k j : Kind) → k ≡ j → Puts o at (line kind= (kindText j)) e r → Puts o at (kindLine k) e r
 unfolding kindLine
@@ -52,7 +52,7 @@ pub record-put :
     (o m₁ m₂ m₃ e : List ℕ) (a b c r number level : ℕ) (kind : Kind) (name place size : ℕ) →
     Puts o 0 (numberLine chunk= number ++ numberLine level= level) m₁ a → Puts m₁ a (kindLine kind) m₂ b → Puts m₂ b (nameLine name) m₃ c →
     Puts m₃ c (numberLine at= place ++ numberLine size= size) e r →
-    (r ≡ length (recordText number level kind name place size)) × (take r e ≡ recordText number level kind name place size)
+    Begins e (recordText number level kind name place size) r
 record-put o m₁ m₂ m₃ e a b c r number level kind name place size p q s t =
     let x = numberLine chunk= number ++ numberLine level= level in
     let y = x ++ kindLine kind ++ nameLine name in
@@ -61,15 +61,10 @@ record-put o m₁ m₂ m₃ e a b c r number level kind name place size p q s t 
     let l : Puts o 0 (recordText number level kind name place size) e r = two-behind o m₃ e y (numberLine at= place) (numberLine size= size) 0 c r k t in
     from-start o e (recordText number level kind name place size) r l
 
-pub refusal-put :
-    (o e : List ℕ) (r answer place : ℕ) → Puts o 0 (numberLine answer= answer ++ numberLine place= place) e r →
-    (r ≡ length (refusalText answer place)) × (take r e ≡ refusalText answer place)
-refusal-put o e r answer place p = from-start o e (refusalText answer place) r p
-
 pub head-put :
-    (o m₁ m₂ e : List ℕ) (a b r chunks end trailing pictures : ℕ) → (a ≡ length (refusalText 0 0)) × (take a m₁ ≡ refusalText 0 0) →
+    (o m₁ m₂ e : List ℕ) (a b r chunks end trailing pictures : ℕ) → Begins m₁ (refusalText 0 0) a →
     Puts m₁ a (numberLine chunks= chunks ++ numberLine end= end) m₂ b → Puts m₂ b (numberLine trailing= trailing ++ numberLine pictures= pictures) e r →
-    (r ≡ length (headText chunks end trailing pictures)) × (take r e ≡ headText chunks end trailing pictures)
+    Begins e (headText chunks end trailing pictures) r
 head-put o m₁ m₂ e a b r chunks end trailing pictures p q s =
     let x = refusalText 0 0 in
     let y = x ++ numberLine chunks= chunks ++ numberLine end= end in

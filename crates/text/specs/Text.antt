@@ -10,14 +10,14 @@ use Rattle.name.specs.declared.Kind.{Kind}
 use Rattle.name.specs.declared.Kind.the-variants.{FORM, LIST, CAT, PROP, FILLER, LOCAL}
 use Rattle.name.specs.Name.{byte0, byte1, byte2, byte3}
 
--- the decimal digits of n, at most k in front of the last one
+-- the decimal digits of n with no zero in front, at most k before the last one
 unfoldable pub decimalUpTo : ℕ → ℕ → List ℕ
 decimalUpTo zero n = (48 + n % 10) ∷ []
 decimalUpTo (suc k) n = cond (ltb n 10) ((48 + n) ∷ []) (decimalUpTo k (n / 10) ++ ((48 + n % 10) ∷ []))
 
--- a number in decimal digits; it has no more of them than n and one
+-- a number of 64 bits in decimal digits: at most 20
 abbrev pub decimal : ℕ → List ℕ
-decimal n = decimalUpTo n n
+decimal n = decimalUpTo 19 n
 
 -- a line: its label, its text, LF
 abbrev pub line : List ℕ → List ℕ → List ℕ
@@ -99,3 +99,7 @@ headText chunks end trailing pictures =
 -- A text is put into a buffer that holds `before`, behind its first `at` bytes: then it holds `after`, and the text ends at r.
 abbrev pub Puts : List ℕ → ℕ → List ℕ → List ℕ → ℕ → Type 0
 Puts before at text after r = (r ≡ at + length text) × (take r after ≡ take at before ++ text)
+
+-- A buffer that holds `after` begins with a text of n bytes.
+abbrev pub Begins : List ℕ → List ℕ → ℕ → Type 0
+Begins after text n = (n ≡ length text) × (take n after ≡ text)

@@ -7,6 +7,7 @@ ghost use Prim.Native.Nat.{_+_, _≤_, _%_};
 ghost use lib.ListN.{length, take};
 ghost use Rattle.text.specs.Text.{
   Puts,
+  Begins,
   numberLine,
   kindLine,
   nameLine,
@@ -103,7 +104,7 @@ pub fn put_record(
     size: usize,
 ) -> usize
     requires { ⌜ 200 ≤ length (now out) ⌝ }
-    ensures { λ n. ⌜ (n ≡ length (recordText number level kind (name .code) place size)) × (take n (now (out .exit)) ≡ recordText number level kind (name .code) place size) ⌝ }
+    ensures { λ n. ⌜ Begins (now (out .exit)) (recordText number level kind (name .code) place size) n ⌝ }
     ensures { λ n. ⌜ n ≤ 200 ⌝ }
 {
     let a = put_two(out, 0, b"chunk=", number, b"level=", level);
@@ -115,7 +116,7 @@ pub fn put_record(
 // Puts the two lines that stand first, the answer and its place.
 pub fn put_refusal(out: &mut [u8], answer: usize, place: usize) -> usize
     requires { ⌜ 200 ≤ length (now out) ⌝ }
-    ensures { λ n. ⌜ (n ≡ length (refusalText answer place)) × (take n (now (out .exit)) ≡ refusalText answer place) ⌝ }
+    ensures { λ n. ⌜ Begins (now (out .exit)) (refusalText answer place) n ⌝ }
     ensures { λ n. ⌜ n ≤ 55 ⌝ }
 {
     put_two(out, 0, b"answer=", answer, b"place=", place)
@@ -130,7 +131,7 @@ pub fn put_head(
     pictures: usize,
 ) -> usize
     requires { ⌜ 200 ≤ length (now out) ⌝ }
-    ensures { λ n. ⌜ (n ≡ length (headText chunks end trailing pictures)) × (take n (now (out .exit)) ≡ headText chunks end trailing pictures) ⌝ }
+    ensures { λ n. ⌜ Begins (now (out .exit)) (headText chunks end trailing pictures) n ⌝ }
     ensures { λ n. ⌜ n ≤ 200 ⌝ }
 {
     let a = put_refusal(out, 0, 0);

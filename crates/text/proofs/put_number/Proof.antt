@@ -47,7 +47,7 @@ returns c =
     let q = c .before .before .before .before .before .before .before .put2 in
     let s = c .before .before .put3 in (
       number-put (g .out .now) (p .last .0) (q .last .0) (s .last .0) (g .label .now) (take (d .decimal .result) (d .decimal .last .1 .0)) (g .at) (p .result) (q .result) (s .result)
-          (g .n) (d .decimal .result) (d .decimal .ensures .1 .0) (d .decimal .ensures .1 .1) (p .ensures) (q .ensures) (s .ensures),
+          (g .n) (d .decimal .result) (search needs) (d .decimal .ensures .1 .0) (d .decimal .ensures .1 .1) (p .ensures) (q .ensures) (s .ensures),
       omega (arith, few d, d .decimal .ensures .0 .1),
     )
 
