@@ -1,1 +1,3 @@
 pub mod Pictures
+pub mod Lines
+pub mod Examples

@@ -1,14 +1,17 @@
 // Lists the chunks of the file at standard input.
+use cursor::Cursor;
 use listing::Record;
 use name::Kind;
 use name::Name;
 use tree::Verdict;
 ghost use mathlib.Core.Path.{_≡_};
-ghost use Prim.Native.Nat.{_≤_};
-ghost use lib.ListN.{length};
-ghost use Rattle.listing.specs.Records.{countOf};
+ghost use Prim.Native.Nat.{_≤_, _<_};
+ghost use lib.ListN.{length, take};
+ghost use Rattle.tree.specs.Judge.{checkOf};
+ghost use Rattle.listing.specs.Records.{recordOf, countOf};
 ghost use Rattle.cursor.specs.Cursors.{firstCursor, Located};
 ghost use Rattle.listfile.specs.Pictures.{oneIf, isPicture, picturesOf};
+ghost use Rattle.listfile.specs.Lines.{answerLines, listedLines};
 
 // The longest file that is listed.
 const MOST: usize = 65536;
@@ -50,6 +53,34 @@ fn pictures(s: &[u8], chunks: usize) -> usize
     n
 }
 
+// Puts the lines that stand first: the refusal of a file, or what the check tells of it.
+fn answer_lines(out: &mut [u8], s: &[u8], v: Verdict) -> usize
+    requires { ⌜ (200 ≤ length (now out)) × (v ≡ checkOf (now s)) ⌝ }
+    ensures { λ n. ⌜ take n (now (out .exit)) ≡ answerLines (now (s .entry)) ⌝ }
+    ensures { λ n. ⌜ n ≤ 200 ⌝ }
+{
+    match v {
+        Verdict::Accepted {
+            chunks,
+            end,
+            trailing,
+        } => text::put_head(out, chunks, end, trailing, pictures(s, chunks)),
+        Verdict::Refused { number, place } => text::put_refusal(out, number, place),
+    }
+}
+
+// Puts the six lines of the record at the cursor.
+fn record_lines(out: &mut [u8], s: &[u8], cur: Cursor) -> usize
+    requires { ⌜ (200 ≤ length (now out)) × (Located (now s) cur) × (cur .number < countOf (now s)) ⌝ }
+    ensures { λ n. ⌜ take n (now (out .exit)) ≡ listedLines (recordOf (now (s .entry)) (cur .number)) ⌝ }
+    ensures { λ n. ⌜ n ≤ 200 ⌝ }
+{
+    let r = cursor::record_at(s, cur);
+    let kind = r.kind;
+    let name = r.name;
+    text::put_record(out, r.number, r.level, kind, name, r.place, r.size)
+}
+
 // Writes the first n bytes of a text.
 fn write_text(out: &[u8], n: usize)
     requires { ⌜ n ≤ length (now out) ⌝ }
@@ -57,12 +88,19 @@ fn write_text(out: &[u8], n: usize)
     io::write_all(libc::STDOUT_FILENO, &out[..n]);
 }
 
-// Writes the six lines of a record.
-fn write_record(r: Record) {
+fn write_answer(s: &[u8], v: Verdict)
+    requires { ⌜ v ≡ checkOf (now s) ⌝ }
+{
     let mut out = [0u8; 200];
-    let kind = r.kind;
-    let name = r.name;
-    let n = text::put_record(&mut out, r.number, r.level, kind, name, r.place, r.size);
+    let n = answer_lines(&mut out, s, v);
+    write_text(&out, n);
+}
+
+fn write_record(s: &[u8], cur: Cursor)
+    requires { ⌜ (Located (now s) cur) × (cur .number < countOf (now s)) ⌝ }
+{
+    let mut out = [0u8; 200];
+    let n = record_lines(&mut out, s, cur);
     write_text(&out, n);
 }
 
@@ -72,44 +110,37 @@ fn write_records(s: &[u8], chunks: usize)
 {
     let mut cur = cursor::first();
     while cur.number < chunks {
-        write_record(cursor::record_at(s, cur));
+        write_record(s, cur);
         cur = cursor::advance(s, cur);
     }
-}
-
-fn write_refusal(answer: usize, place: usize) {
-    let mut out = [0u8; 200];
-    let n = text::put_refusal(&mut out, answer, place);
-    write_text(&out, n);
-}
-
-fn write_head(chunks: usize, end: usize, trailing: usize, pictures: usize) {
-    let mut out = [0u8; 200];
-    let n = text::put_head(&mut out, chunks, end, trailing, pictures);
-    write_text(&out, n);
 }
 
 // Writes the listing of a file, or its refusal.
 fn list(s: &[u8]) {
     let v = tree::check(s);
+    write_answer(s, v);
     match v {
         Verdict::Accepted {
             chunks,
             end,
             trailing,
-        } => {
-            write_head(chunks, end, trailing, pictures(s, chunks));
-            write_records(s, chunks);
-        }
-        Verdict::Refused { number, place } => write_refusal(number, place),
+        } => write_records(s, chunks),
+        Verdict::Refused { number, place } => {}
     }
+}
+
+// Writes the refusal of a file that is longer than the longest.
+fn write_too_long() {
+    let mut out = [0u8; 200];
+    let n = text::put_refusal(&mut out, 40, 0);
+    write_text(&out, n);
 }
 
 fn main() {
     let mut buffer = [0u8; 65537];
     let n = io::read_full(libc::STDIN_FILENO, &mut buffer);
     if MOST < n {
-        write_refusal(40, 0);
+        write_too_long();
         return;
     }
     list(&buffer[..n]);

@@ -9,29 +9,20 @@ use Rattle.listfile.proofs.list.Tie as tie
 check-requires : tie.Need-check-requires
 check-requires c κs = search needs
 
+write-answer-requires : tie.Need-write-answer-requires
+write-answer-requires c κs = search needs
+
 enum-known-v : tie.Need-enum-known-v
 enum-known-v c = search needs
 
-pictures-requires : tie.Need-pictures-requires
-pictures-requires c κs =
-    let k = c .before .before .before .before in
-    let b : Bytes (k .before .args .s .now) = λ i. omega (arith, k .shared-slice-known .given i) in
-    search (accepted-start, accepted-count, needs)
-
-write-head-requires : tie.Need-write-head-requires
-write-head-requires c κs = search needs
-
 write-records-requires : tie.Need-write-records-requires
 write-records-requires c κs =
-    let k = c .before .before .before .before .before .before in
+    let k = c .before .before .before .before .before in
     let b : Bytes (k .before .args .s .now) = λ i. omega (arith, k .shared-slice-known .given i) in
     search (accepted-start, accepted-count, needs)
 
 enum-known-v-2 : tie.Need-enum-known-v-2
 enum-known-v-2 c = search needs
-
-write-refusal-requires : tie.Need-write-refusal-requires
-write-refusal-requires c κs = search needs
 
 returns : tie.Need-returns
 returns c = search needs
@@ -44,11 +35,9 @@ list-spec =
     tie.close
     (tie.spec
     check-requires
+    write-answer-requires
     enum-known-v
-    pictures-requires
-    write-head-requires
     write-records-requires
     enum-known-v-2
-    write-refusal-requires
     returns
     returns-2)

@@ -18,9 +18,6 @@ first-requires c κs = search (picture-laws, needs)
 loop-holds : tie.Need-loop-holds Inv-loop μ-loop
 loop-holds c = search (picture-laws, needs)
 
-record-at-requires : tie.Need-record-at-requires Inv-loop μ-loop
-record-at-requires c κs = search (picture-laws, needs)
-
 write-record-requires : tie.Need-write-record-requires Inv-loop μ-loop
 write-record-requires c κs = search (picture-laws, needs)
 
@@ -44,7 +41,6 @@ write-records-spec =
     μ-loop
     first-requires
     loop-holds
-    record-at-requires
     write-record-requires
     advance-requires
     loop-less

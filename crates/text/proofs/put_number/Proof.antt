@@ -1,7 +1,9 @@
--- `put_number` meets its contract: a number of 64 bits has at most 20 digits.
+-- `put_number` meets its contract: the label, the digits and LF are put one behind another, and a number of 64 bits has at most 20 digits.
 use Prim.Native.Nat.{_≤_}
 use native.Mathlib.Omega.{arith}
+use lib.ListN.{take}
 use borrow.Author.Needs.{needs}
+use Rattle.text.proofs.Texts.{number-put}
 use Rattle.text.proofs.Words.{few-digits}
 use Rattle.text.proofs.put_number.Statement.{statement}
 use Rattle.text.proofs.put_number.Tie as tie
@@ -40,7 +42,14 @@ same-length c = search needs
 returns : tie.Need-returns
 returns c =
     let d = c .before .before .before .before .before .before .before .before .before .before .before .before .before .before in
-    omega (arith, few d, d .decimal .ensures .0 .1)
+    let g = d .before .before .before .before .args in
+    let p = c .before .before .before .before .before .before .before .before .before .before .before .before .put in
+    let q = c .before .before .before .before .before .before .before .put2 in
+    let s = c .before .before .put3 in (
+      number-put (g .out .now) (p .last .0) (q .last .0) (s .last .0) (g .label .now) (take (d .decimal .result) (d .decimal .last .1 .0)) (g .at) (p .result) (q .result) (s .result)
+          (g .n) (d .decimal .result) (search needs) (d .decimal .ensures .1 .0) (d .decimal .ensures .1 .1) (p .ensures) (q .ensures) (s .ensures),
+      omega (arith, few d, d .decimal .ensures .0 .1),
+    )
 
 pub put-number-spec : {M : Type 1} → statement M
 put-number-spec =

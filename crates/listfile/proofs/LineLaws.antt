@@ -1,0 +1,25 @@
+-- The lines of the answer are those of the check's verdict, and the lines at a cursor those of the record of its number.
+use Prim.Native.Nat.{ℕ}
+use mathlib.Core.Path.{_≡_, sym, ap, _∙_}
+use mathlib.Core.List.{List}
+use Rattle.tree.specs.declared.Verdict.{Verdict}
+use Rattle.tree.specs.declared.Verdict.the-variants.{Accepted, Refused}
+use Rattle.tree.specs.Judge.{checkOf}
+use Rattle.listing.specs.declared.Record.{Record}
+use Rattle.listing.specs.declared.Listed.the-variants.{Chunk as Listed-chunk}
+use Rattle.listing.specs.Records.{recordOf}
+use Rattle.text.specs.Text.{headText, refusalText}
+use Rattle.listfile.specs.Pictures.{picturesOf}
+use Rattle.listfile.specs.Lines.{verdictLines, answerLines, recordLines, listedLines}
+
+module _ (s t : List ℕ) (v : Verdict) (d : v ≡ checkOf s) where
+  pub accepted-lines : (n a b k : ℕ) → v ≡ Accepted n a b → k ≡ picturesOf s → t ≡ headText n a b k → t ≡ answerLines s
+  accepted-lines n a b k e f h = h ∙ ap (headText n a b) f ∙ ap (verdictLines s) (sym e ∙ d)
+
+  pub refused-lines : (k p : ℕ) → v ≡ Refused k p → t ≡ refusalText k p → t ≡ answerLines s
+  refused-lines k p e h = h ∙ ap (verdictLines s) (sym e ∙ d)
+
+pub lines-at : (s t : List ℕ) (m : ℕ) (r : Record) → Listed-chunk r ≡ recordOf s m → t ≡ recordLines r → t ≡ listedLines (recordOf s m)
+lines-at s t m r e h = h ∙ ap listedLines e
+
+pub ruleset line-laws = (accepted-lines, refused-lines, lines-at)

@@ -1,0 +1,52 @@
+-- `answer_lines` meets its contract, by the verdict: a walk over an accepted file counts its pictures.
+use native.Mathlib.Omega.{arith}
+use borrow.Author.Needs.{needs}
+use Rattle.grammar.specs.Words.{Bytes}
+use Rattle.listfile.proofs.PictureLaws.{accepted-start, accepted-count}
+use Rattle.listfile.proofs.LineLaws.{line-laws}
+use Rattle.listfile.proofs.answer_lines.Statement.{statement}
+use Rattle.listfile.proofs.answer_lines.Tie as tie
+
+enum-known-v : tie.Need-enum-known-v
+enum-known-v c = search needs
+
+pictures-requires : tie.Need-pictures-requires
+pictures-requires c κs =
+    let k = c .before .before .before .before in
+    let b : Bytes (k .before .before .args .s .now) = λ i. omega (arith, k .shared-slice-known .given i) in
+    search (accepted-start, accepted-count, needs)
+
+put-head-requires : tie.Need-put-head-requires
+put-head-requires c κs = search needs
+
+enum-known-v-2 : tie.Need-enum-known-v-2
+enum-known-v-2 c = search needs
+
+put-refusal-requires : tie.Need-put-refusal-requires
+put-refusal-requires c κs = search needs
+
+same-length : tie.Need-same-length
+same-length c = search needs
+
+returns : tie.Need-returns
+returns c = search (line-laws, needs)
+
+same-length-2 : tie.Need-same-length-2
+same-length-2 c = search needs
+
+returns-2 : tie.Need-returns-2
+returns-2 c = search (line-laws, needs)
+
+pub answer-lines-spec : {M : Type 1} → statement M
+answer-lines-spec =
+    tie.close
+    (tie.spec
+    enum-known-v
+    pictures-requires
+    put-head-requires
+    enum-known-v-2
+    put-refusal-requires
+    same-length
+    returns
+    same-length-2
+    returns-2)
