@@ -3,7 +3,7 @@
 //! run_records.sh with the code of `records::fill`, which can't be exported.
 
 use compare::listings::{plain, Table};
-use compare::shapes::{now, Make, SHAPES};
+use compare::shapes::{now, Count, Make, SHAPES};
 
 /// The compiler's layout of a record.
 #[repr(C)]
@@ -58,28 +58,45 @@ fn same(table: &[Record], expected: &Table) -> bool {
     })
 }
 
-/// The least time of some turns, in seconds.
-fn least(mut file: Vec<u8>, chunks: usize) -> Result<f64, String> {
-    let mut table = vec![UNTOUCHED; chunks + 1];
-    let mut expected = Table::new(chunks + 1);
-    let mut least = f64::MAX;
-    for _ in 0..TURNS {
-        table.fill(UNTOUCHED);
-        let start = now();
-        fill(&mut file, &mut table);
-        least = least.min(now() - start);
-    }
-    if plain(&file, &mut expected) != chunks || !same(&table, &expected) {
-        return Err("the table differs from the plain walk's".to_string());
-    }
-    Ok(least)
+/// A file, its number of chunks, its table, and the least time of filling it, in seconds.
+struct Subject {
+    file: Vec<u8>,
+    chunks: usize,
+    table: Vec<Record>,
+    least: f64,
 }
 
-fn measure(make: Make, members: usize, chunks: fn(usize) -> usize) -> Result<(), String> {
-    let half = least(make(members / 2), chunks(members / 2))?;
-    let whole = least(make(members), chunks(members))?;
-    let growth = whole / half;
-    println!("    {} chunks: {:.1} ms, {growth:.2} times the half", chunks(members), whole * 1e3);
+impl Subject {
+    fn new(file: Vec<u8>, chunks: usize) -> Subject {
+        Subject { file, chunks, table: vec![UNTOUCHED; chunks + 1], least: f64::MAX }
+    }
+
+    fn turn(&mut self) {
+        self.table.fill(UNTOUCHED);
+        let start = now();
+        fill(&mut self.file, &mut self.table);
+        self.least = self.least.min(now() - start);
+    }
+
+    fn as_expected(&self) -> bool {
+        let mut expected = Table::new(self.chunks + 1);
+        plain(&self.file, &mut expected) == self.chunks && same(&self.table, &expected)
+    }
+}
+
+/// Half the members and all of them, in turns.
+fn measure(make: Make, members: usize, chunks: Count) -> Result<(), String> {
+    let mut half = Subject::new(make(members / 2), chunks(members / 2));
+    let mut whole = Subject::new(make(members), chunks(members));
+    for _ in 0..TURNS {
+        half.turn();
+        whole.turn();
+    }
+    if !half.as_expected() || !whole.as_expected() {
+        return Err("the table differs from the plain walk's".to_string());
+    }
+    let growth = whole.least / half.least;
+    println!("    {} chunks: {:.1} ms, {growth:.2} times the half", whole.chunks, whole.least * 1e3);
     if growth > GROWTH {
         return Err(format!("more than {GROWTH} times the half"));
     }
