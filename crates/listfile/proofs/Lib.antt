@@ -1,2 +1,2 @@
-pub mod PictureLaws
+pub mod WalkLaws
 pub mod LineLaws

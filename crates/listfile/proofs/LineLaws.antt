@@ -1,4 +1,4 @@
--- The lines of the answer are those of the check's verdict, and the lines at a cursor those of the record of its number.
+-- The pictures are those that are counted. The lines of the answer are those of the check's verdict, and the lines at a cursor those of the record of its number.
 use Prim.Native.Nat.{ℕ}
 use mathlib.Core.Path.{_≡_, sym, ap, _∙_}
 use mathlib.Core.List.{List}
@@ -9,8 +9,18 @@ use Rattle.listing.specs.declared.Record.{Record}
 use Rattle.listing.specs.declared.Listed.the-variants.{Chunk as Listed-chunk}
 use Rattle.listing.specs.Records.{recordOf}
 use Rattle.text.specs.Text.{headText, refusalText}
-use Rattle.listfile.specs.Pictures.{picturesOf}
-use Rattle.listfile.specs.Lines.{verdictLines, answerLines, recordLines, listedLines}
+use Rattle.count.specs.Count as Count
+use Rattle.count.specs.declared.Counted.{Counted}
+use Rattle.count.specs.declared.Counted.the-variants.{Pictures, Refused as Counted-refused}
+use Rattle.listfile.specs.Lines.{picturesTold, picturesOf, verdictLines, answerLines, recordLines, listedLines}
+
+-- the count that is told is that of the pictures, or 0
+module _ (s : List ℕ) (c : Counted) (d : c ≡ Count.countOf s) where
+  pub counted : (n : ℕ) → c ≡ Pictures n → n ≡ picturesOf s
+  counted n e = ap picturesTold (sym e ∙ d)
+
+  pub uncounted : (k p : ℕ) → c ≡ Counted-refused k p → 0 ≡ picturesOf s
+  uncounted k p e = ap picturesTold (sym e ∙ d)
 
 module _ (s t : List ℕ) (v : Verdict) (d : v ≡ checkOf s) where
   pub accepted-lines : (n a b k : ℕ) → v ≡ Accepted n a b → k ≡ picturesOf s → t ≡ headText n a b k → t ≡ answerLines s
@@ -22,4 +32,4 @@ module _ (s t : List ℕ) (v : Verdict) (d : v ≡ checkOf s) where
 pub lines-at : (s t : List ℕ) (m : ℕ) (r : Record) → Listed-chunk r ≡ recordOf s m → t ≡ recordLines r → t ≡ listedLines (recordOf s m)
 lines-at s t m r e h = h ∙ ap listedLines e
 
-pub ruleset line-laws = (accepted-lines, refused-lines, lines-at)
+pub ruleset line-laws = (counted, uncounted, accepted-lines, refused-lines, lines-at)

@@ -6,14 +6,14 @@ use Rattle.name.specs.Name.{wellFormed, versionName, typeName, typeBytes, reser
 use Rattle.chunk.specs.Chunks.{word, bytes, count}
 use Rattle.header.specs.Checks.{headerOf, groupHeaderOf}
 use Rattle.tree.specs.Judge.{readFile, chunkAt, run}
-use Rattle.listing.specs.Records.{recordsFrom}
+use Rattle.listing.specs.Records.{recordsFrom, pickRecord}
+use Rattle.ilbm.specs.Contents.{contentsFrom}
 use Rattle.text.specs.Text.{decimalUpTo, numberLine, kindLine, nameLine}
 use Rattle.text.specs.Examples.{head-bytes, record-bytes}
-use Rattle.listfile.specs.Pictures.{picturesIn}
-use Rattle.listfile.specs.Lines.{linesOf, printed}
+use Rattle.listfile.specs.Lines.{linesFrom, printed}
 
 pub form-printed : printed (70 ∷ 79 ∷ 82 ∷ 77 ∷ 0 ∷ 0 ∷ 0 ∷ 4 ∷ 73 ∷ 76 ∷ 66 ∷ 77 ∷ []) ≡ head-bytes ++ record-bytes
-unfolding readFile chunkAt run headerOf groupHeaderOf word bytes count wellFormed versionName typeName typeBytes reservedName kindOf recordsFrom picturesIn linesOf decimalUpTo numberLine kindLine nameLine
+unfolding readFile chunkAt run headerOf groupHeaderOf word bytes count wellFormed versionName typeName typeBytes reservedName kindOf recordsFrom pickRecord contentsFrom linesFrom decimalUpTo numberLine kindLine nameLine
 form-printed = refl
 
 -- answer=3, place=0
@@ -21,5 +21,5 @@ pub version-printed : printed (70 ∷ 79 ∷ 82 ∷ 49 ∷ 0 ∷ 0 ∷ 0 ∷ 4 �
     97 ∷ 110 ∷ 115 ∷ 119 ∷ 101 ∷ 114 ∷ 61 ∷ 51 ∷ 10 ∷
     112 ∷ 108 ∷ 97 ∷ 99 ∷ 101 ∷ 61 ∷ 48 ∷ 10 ∷
     []
-unfolding readFile chunkAt headerOf word versionName kindOf linesOf decimalUpTo numberLine
+unfolding readFile chunkAt headerOf word versionName kindOf linesFrom decimalUpTo numberLine
 version-printed = refl

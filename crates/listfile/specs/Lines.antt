@@ -1,15 +1,25 @@
 -- 01 "Examples": what the program prints for a file: the lines of its answer, then six lines for each record.
-use Prim.Native.Nat.{ℕ}
-use mathlib.Core.Path.{_≡_, refl}
-use mathlib.Core.List.{List, [], _∷_, _++_}
+use Prim.Native.Nat.{ℕ, zero, suc}
+use mathlib.Core.List.{List, [], _++_}
 use Rattle.tree.specs.declared.Verdict.{Verdict}
 use Rattle.tree.specs.declared.Verdict.the-variants.{Accepted, Refused as Verdict-refused}
-use Rattle.tree.specs.Judge.{readFile, checkOf}
+use Rattle.tree.specs.Judge.{checkOf}
 use Rattle.listing.specs.declared.Record.{Record}
 use Rattle.listing.specs.declared.Listed.{Listed}
 use Rattle.listing.specs.declared.Listed.the-variants.{Chunk, Refused}
 use Rattle.text.specs.Text.{recordText, refusalText, headText}
-use Rattle.listfile.specs.Pictures.{picturesOf, recordsIn}
+use Rattle.listing.specs.Records.{recordOf, countOf}
+use Rattle.count.specs.Count as Count
+use Rattle.count.specs.declared.Counted.{Counted}
+use Rattle.count.specs.declared.Counted.the-variants.{Pictures, Refused as Counted-refused}
+
+-- how many pictures the file has
+abbrev pub picturesTold : Counted → ℕ
+picturesTold (Pictures n) = n
+picturesTold (Counted-refused k p) = 0
+
+abbrev pub picturesOf : List ℕ → ℕ
+picturesOf s = picturesTold (Count.countOf s)
 
 -- the lines that stand first: "A refusal prints the first two lines only."
 abbrev pub verdictLines : List ℕ → Verdict → List ℕ
@@ -27,11 +37,11 @@ abbrev pub listedLines : Listed → List ℕ
 listedLines (Chunk r) = recordLines r
 listedLines (Refused k p) = []
 
--- "The last six lines come once per chunk"
-unfoldable pub linesOf : List Record → List ℕ
-linesOf [] = []
-linesOf (r ∷ rs) = recordLines r ++ linesOf rs
+-- "The last six lines come once per chunk": those of n records, from the number m on
+unfoldable pub linesFrom : List ℕ → ℕ → ℕ → List ℕ
+linesFrom s m zero = []
+linesFrom s m (suc n) = listedLines (recordOf s m) ++ linesFrom s (suc m) n
 
--- all that is printed for a file
+-- all that is printed for a file; a refused one has no records
 abbrev pub printed : List ℕ → List ℕ
-printed s = answerLines s ++ linesOf (recordsIn (readFile s))
+printed s = answerLines s ++ linesFrom s 0 (countOf s)

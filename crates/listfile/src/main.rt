@@ -1,8 +1,7 @@
 // Lists the chunks of the file at standard input.
+use count::Counted;
 use cursor::Cursor;
 use listing::Record;
-use name::Kind;
-use name::Name;
 use tree::Verdict;
 ghost use mathlib.Core.Path.{_≡_};
 ghost use Prim.Native.Nat.{_≤_, _<_};
@@ -10,47 +9,23 @@ ghost use lib.ListN.{length, take};
 ghost use Rattle.tree.specs.Judge.{checkOf};
 ghost use Rattle.listing.specs.Records.{recordOf, countOf};
 ghost use Rattle.cursor.specs.Cursors.{firstCursor, Located};
-ghost use Rattle.listfile.specs.Pictures.{oneIf, isPicture, picturesOf};
-ghost use Rattle.listfile.specs.Lines.{answerLines, listedLines};
+ghost use Rattle.listfile.specs.Lines.{picturesOf, answerLines, listedLines};
 
 // The longest file that is listed.
 const MOST: usize = 65536;
 
-const ILBM: Name = Name { code: 0x494C424D };
-
-// Whether a record is that of a picture, a FORM of type ILBM.
-fn is_picture(r: Record) -> bool
-    ensures { λ b. ⌜ b ≡ isPicture r ⌝ }
-{
-    let kind = r.kind;
-    match kind {
-        Kind::FORM => r.name.code == ILBM.code,
-        Kind::LIST => false,
-        Kind::CAT => false,
-        Kind::PROP => false,
-        Kind::FILLER => false,
-        Kind::LOCAL => false,
-    }
-}
-
-fn one_if(b: bool) -> usize
-    ensures { λ r. ⌜ r ≡ oneIf b ⌝ }
-{
-    if b { 1 } else { 0 }
-}
-
-// How many pictures an accepted file has.
-fn pictures(s: &[u8], chunks: usize) -> usize
-    requires { ⌜ (Located (now s) firstCursor) × (chunks ≡ countOf (now s)) ⌝ }
+// How many pictures a file has, 0 if it is refused.
+fn pictures(s: &[u8]) -> usize
     ensures { λ r. ⌜ r ≡ picturesOf (now (s .entry)) ⌝ }
 {
-    let mut n = 0;
-    let mut cur = cursor::first();
-    while cur.number < chunks {
-        n = n + one_if(is_picture(cursor::record_at(s, cur)));
-        cur = cursor::advance(s, cur);
+    let c = count::count_pictures(s);
+    match c {
+        Counted::Pictures(n) => n,
+        Counted::Refused {
+            number: _,
+            place: _,
+        } => 0,
     }
-    n
 }
 
 // Puts the lines that stand first: the refusal of a file, or what the check tells of it.
@@ -64,7 +39,7 @@ fn answer_lines(out: &mut [u8], s: &[u8], v: Verdict) -> usize
             chunks,
             end,
             trailing,
-        } => text::put_head(out, chunks, end, trailing, pictures(s, chunks)),
+        } => text::put_head(out, chunks, end, trailing, pictures(s)),
         Verdict::Refused { number, place } => text::put_refusal(out, number, place),
     }
 }

@@ -1,8 +1,5 @@
--- `answer_lines` meets its contract, by the verdict: a walk over an accepted file counts its pictures.
-use native.Mathlib.Omega.{arith}
+-- By the verdict: of an accepted file the lines have what the check and the count of pictures told, of a refused one the refusal.
 use borrow.Author.Needs.{needs}
-use Rattle.grammar.specs.Words.{Bytes}
-use Rattle.listfile.proofs.PictureLaws.{accepted-start, accepted-count}
 use Rattle.listfile.proofs.LineLaws.{line-laws}
 use Rattle.listfile.proofs.answer_lines.Statement.{statement}
 use Rattle.listfile.proofs.answer_lines.Tie as tie
@@ -11,10 +8,7 @@ enum-known-v : tie.Need-enum-known-v
 enum-known-v c = search needs
 
 pictures-requires : tie.Need-pictures-requires
-pictures-requires c κs =
-    let k = c .before .before .before .before in
-    let b : Bytes (k .before .before .args .s .now) = λ i. omega (arith, k .shared-slice-known .given i) in
-    search (accepted-start, accepted-count, needs)
+pictures-requires c κs = tt
 
 put-head-requires : tie.Need-put-head-requires
 put-head-requires c κs = search needs
