@@ -1,8 +1,6 @@
 // The four-byte names of EA IFF 85: the reserved ones, and the tests on a name.
 ghost use mathlib.Core.Path.{_≡_};
 ghost use Rattle.name.specs.Name.{
-  both,
-  either,
   printable,
   spaceThen,
   wellFormed,
@@ -29,37 +27,22 @@ pub enum Kind {
     LOCAL,
 }
 
-fn both(a: bool, b: bool) -> bool
-    ensures { λ r. ⌜ r ≡ both a b ⌝ }
-{
-    if a { b } else { false }
-}
-
-fn either(a: bool, b: bool) -> bool
-    ensures { λ r. ⌜ r ≡ either a b ⌝ }
-{
-    if a { true } else { b }
-}
-
 fn printable(b: u32) -> bool
     ensures { λ r. ⌜ r ≡ printable b ⌝ }
 {
-    both(32 <= b, b <= 126)
+    (32 <= b) & (b <= 126)
 }
 
 fn space_then(b: u32, next: u32) -> bool
     ensures { λ r. ⌜ r ≡ spaceThen b next ⌝ }
 {
-    either(b != 32, next == 32)
+    (b != 32) | (next == 32)
 }
 
 fn type_byte(b: u32) -> bool
     ensures { λ r. ⌜ r ≡ typeByte b ⌝ }
 {
-    either(
-        both(65 <= b, b <= 90),
-        either(both(48 <= b, b <= 57), b == 32),
-    )
+    ((65 <= b) & (b <= 90)) | (((48 <= b) & (b <= 57)) | (b == 32))
 }
 
 impl Name {
@@ -85,17 +68,13 @@ impl Name {
     pub fn is_well_formed(self) -> bool
         ensures { λ r. ⌜ r ≡ wellFormed (self .code) ⌝ }
     {
-        let a = self.code / 16777216;
-        let b = self.code / 65536 % 256;
-        let c = self.code / 256 % 256;
-        let d = self.code % 256;
-        both(
-            both(
-                both(printable(a), printable(b)),
-                both(printable(c), printable(d)),
-            ),
-            both(space_then(a, b), both(space_then(b, c), space_then(c, d))),
-        )
+        let n = self.code;
+        let a = n / 16777216;
+        let b = n / 65536 % 256;
+        let c = n / 256 % 256;
+        let d = n % 256;
+        ((printable(a) & printable(b)) & (printable(c) & printable(d)))
+            & (space_then(a, b) & (space_then(b, c) & space_then(c, d)))
     }
 
     // FOR1 to FOR9, LIS1 to LIS9, CAT1 to CAT9.
@@ -104,27 +83,20 @@ impl Name {
     {
         let stem = self.code / 256;
         let digit = self.code % 256;
-        both(
-            either(
-                stem == Name::FOR.code,
-                either(stem == Name::LIS.code, stem == Name::CATS.code),
-            ),
-            both(49 <= digit, digit <= 57),
-        )
+        ((stem == Name::FOR.code) | ((stem == Name::LIS.code) | (stem == Name::CATS.code)))
+            & ((49 <= digit) & (digit <= 57))
     }
 
     // A to Z, 0 to 9 and spaces alone.
     fn has_type_bytes(self) -> bool
         ensures { λ r. ⌜ r ≡ typeBytes (self .code) ⌝ }
     {
-        let a = self.code / 16777216;
-        let b = self.code / 65536 % 256;
-        let c = self.code / 256 % 256;
-        let d = self.code % 256;
-        both(
-            both(type_byte(a), type_byte(b)),
-            both(type_byte(c), type_byte(d)),
-        )
+        let n = self.code;
+        let a = n / 16777216;
+        let b = n / 65536 % 256;
+        let c = n / 256 % 256;
+        let d = n % 256;
+        (type_byte(a) & type_byte(b)) & (type_byte(c) & type_byte(d))
     }
 
     // A group's name, the filler or JJJJ.
@@ -132,26 +104,15 @@ impl Name {
         ensures { λ r. ⌜ r ≡ reservedName (self .code) ⌝ }
     {
         let n = self.code;
-        either(
-            either(
-                n == Name::FORM.code,
-                either(n == Name::LIST.code, n == Name::CAT.code),
-            ),
-            either(
-                n == Name::PROP.code,
-                either(n == Name::JJJJ.code, n == Name::FILLER.code),
-            ),
-        )
+        ((n == Name::FORM.code) | ((n == Name::LIST.code) | (n == Name::CAT.code)))
+            | ((n == Name::PROP.code) | ((n == Name::JJJJ.code) | (n == Name::FILLER.code)))
     }
 
     // A name that may be the type of a FORM or PROP.
     pub fn is_type(self) -> bool
         ensures { λ r. ⌜ r ≡ typeName (self .code) ⌝ }
     {
-        both(
-            both(self.is_well_formed(), self.has_type_bytes()),
-            both(!self.is_reserved(), !self.is_version()),
-        )
+        (self.is_well_formed() & self.has_type_bytes()) & (!self.is_reserved() & !self.is_version())
     }
 
     pub fn kind(self) -> Kind

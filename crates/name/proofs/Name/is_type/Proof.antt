@@ -1,5 +1,6 @@
 -- The code joins the four tests as the definition does.
-use Rattle.name.specs.Name.{typeName}
+use mathlib.Core.Bool.{not}
+use Rattle.name.specs.Name.{both, typeName}
 use Rattle.name.proofs.Name.is_type.Statement.{statement}
 use Rattle.name.proofs.Name.is_type.Tie as tie
 use Rattle.name.proofs.Name.is_type.Reads as reads
@@ -8,7 +9,6 @@ use Rattle.name.proofs.Name.has_type_bytes.Reads as has-type-bytes-read
 use Rattle.name.proofs.Name.is_reserved.Reads as is-reserved-reads
 use Rattle.name.proofs.Name.is_version.Reads as is-version-reads
 use Rattle.name.proofs.Name.is_well_formed.Reads as is-well-formed-reads
-use Rattle.name.proofs.both.Reads as both-reads
 
 is-well-formed-requires : tie.Need-is-well-formed-requires
 is-well-formed-requires c κs = tt
@@ -16,34 +16,15 @@ is-well-formed-requires c κs = tt
 has-type-bytes-requires : tie.Need-has-type-bytes-requires
 has-type-bytes-requires c κs = tt
 
-both-requires : tie.Need-both-requires
-both-requires c κs = tt
-
 is-reserved-requires : tie.Need-is-reserved-requires
 is-reserved-requires c κs = tt
 
 is-version-requires : tie.Need-is-version-requires
 is-version-requires c κs = tt
 
-both-requires-2 : tie.Need-both-requires-2
-both-requires-2 c κs = tt
-
-both-requires-3 : tie.Need-both-requires-3
-both-requires-3 c κs = tt
-
 returns : tie.Need-returns
 unfolding typeName
-returns c = cc
+returns c = λ i. both (both (c .before .before .before .is-well-formed .ensures i) (c .before .before .has-type-bytes .ensures i)) (both (not (c .before .is-reserved .ensures i)) (not (c .is-version .ensures i)))
 
 pub is-type-spec : {M : Type 1} → statement M
-is-type-spec =
-    tie.close
-    (tie.spec
-    is-well-formed-requires
-    has-type-bytes-requires
-    both-requires
-    is-reserved-requires
-    is-version-requires
-    both-requires-2
-    both-requires-3
-    returns)
+is-type-spec = tie.close (tie.spec is-well-formed-requires has-type-bytes-requires is-reserved-requires is-version-requires returns)

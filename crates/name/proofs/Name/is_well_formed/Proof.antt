@@ -1,10 +1,9 @@
--- The code asks of each byte, and of each two neighbours, what the definition asks.
-use Rattle.name.specs.Name.{wellFormed}
+-- The code asks of each byte, and of each two neighbours, what the definition asks, and joins the answers as it does.
+use Rattle.name.specs.Name.{both, wellFormed}
 use Rattle.name.proofs.Name.is_well_formed.Statement.{statement}
 use Rattle.name.proofs.Name.is_well_formed.Tie as tie
 use Rattle.name.proofs.Name.is_well_formed.Reads as reads
 use Rattle.name.proofs.Name.is_well_formed.Lts as lts
-use Rattle.name.proofs.both.Reads as both-reads
 use Rattle.name.proofs.printable.Reads as printable-reads
 use Rattle.name.proofs.space_then.Reads as space-then-reads
 
@@ -14,20 +13,11 @@ printable-requires c κs = tt
 printable-requires-2 : tie.Need-printable-requires-2
 printable-requires-2 c κs = tt
 
-both-requires : tie.Need-both-requires
-both-requires c κs = tt
-
 printable-requires-3 : tie.Need-printable-requires-3
 printable-requires-3 c κs = tt
 
 printable-requires-4 : tie.Need-printable-requires-4
 printable-requires-4 c κs = tt
-
-both-requires-2 : tie.Need-both-requires-2
-both-requires-2 c κs = tt
-
-both-requires-3 : tie.Need-both-requires-3
-both-requires-3 c κs = tt
 
 space-then-requires : tie.Need-space-then-requires
 space-then-requires c κs = tt
@@ -38,34 +28,13 @@ space-then-requires-2 c κs = tt
 space-then-requires-3 : tie.Need-space-then-requires-3
 space-then-requires-3 c κs = tt
 
-both-requires-4 : tie.Need-both-requires-4
-both-requires-4 c κs = tt
-
-both-requires-5 : tie.Need-both-requires-5
-both-requires-5 c κs = tt
-
-both-requires-6 : tie.Need-both-requires-6
-both-requires-6 c κs = tt
-
 returns : tie.Need-returns
 unfolding wellFormed
-returns c = cc
+returns c = λ i.
+    both
+    (both (both (c .before .before .before .before .before .before .printable .ensures i)
+    (c .before .before .before .before .before .printable2 .ensures i)) (both (c .before .before .before .before .printable3 .ensures i) (c .before .before .before .printable4 .ensures i)))
+    (both (c .before .before .space-then .ensures i) (both (c .before .space-then2 .ensures i) (c .space-then3 .ensures i)))
 
 pub is-well-formed-spec : {M : Type 1} → statement M
-is-well-formed-spec =
-    tie.close
-    (tie.spec
-    printable-requires
-    printable-requires-2
-    both-requires
-    printable-requires-3
-    printable-requires-4
-    both-requires-2
-    both-requires-3
-    space-then-requires
-    space-then-requires-2
-    space-then-requires-3
-    both-requires-4
-    both-requires-5
-    both-requires-6
-    returns)
+is-well-formed-spec = tie.close (tie.spec printable-requires printable-requires-2 printable-requires-3 printable-requires-4 space-then-requires space-then-requires-2 space-then-requires-3 returns)
