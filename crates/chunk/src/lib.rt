@@ -11,14 +11,6 @@ fn quad(a: u8, b: u8, c: u8, d: u8) -> usize
     (a as usize) * 16777216 + (b as usize) * 65536 + (c as usize) * 256 + (d as usize)
 }
 
-fn quad_name(a: u8, b: u8, c: u8, d: u8) -> Name
-    ensures { λ r. ⌜ r .code ≡ a * 16777216 + b * 65536 + c * 256 + d ⌝ }
-{
-    Name {
-        code: (a as u32) * 16777216 + (b as u32) * 65536 + (c as u32) * 256 + (d as u32),
-    }
-}
-
 // The size that the four bytes from p on give.
 pub fn size_at(s: &[u8], p: usize) -> usize
     requires { ⌜ p + 4 ≤ length (now s) ⌝ }
@@ -27,12 +19,14 @@ pub fn size_at(s: &[u8], p: usize) -> usize
     quad(s[p], s[p + 1], s[p + 2], s[p + 3])
 }
 
-// The name that the four bytes from p on are.
+// The name that the four bytes from p on are: its number is read as a size is.
 pub fn name_at(s: &[u8], p: usize) -> Name
     requires { ⌜ p + 4 ≤ length (now s) ⌝ }
     ensures { λ r. ⌜ r .code ≡ word (now (s .entry)) p ⌝ }
 {
-    quad_name(s[p], s[p + 1], s[p + 2], s[p + 3])
+    Name {
+        code: size_at(s, p) as u32,
+    }
 }
 
 // The place after the chunk at p, its pad included.

@@ -1,1 +1,2 @@
+pub mod Rank
 pub mod Rules

@@ -6,17 +6,13 @@ ghost use Rattle.name.specs.Name.{kindOf};
 ghost use Rattle.rules.specs.Rules.{
   isGroup,
   isSection,
-  inForm,
-  inProp,
-  inList,
-  inCat,
   allowed,
   misplaced,
   inside,
-  afterInList,
   after,
   groupType,
 };
+ghost use Rattle.rules.specs.Rank.{rank};
 
 // Where a chunk stands: by itself, in a FORM, in a PROP, in a LIST with no FORM, LIST or CAT before it,
 // or in a CAT or the rest of a LIST.
@@ -28,93 +24,42 @@ pub enum Position {
     InCat,
 }
 
+// A kind as a number: FORM, LIST, CAT, PROP, FILLER and LOCAL from 0 on. Most rules compare it.
+fn rank(k: Kind) -> u32
+    ensures { λ r. ⌜ r ≡ rank k ⌝ }
+{
+    match k {
+        Kind::FORM => 0,
+        Kind::LIST => 1,
+        Kind::CAT => 2,
+        Kind::PROP => 3,
+        Kind::FILLER => 4,
+        Kind::LOCAL => 5,
+    }
+}
+
 pub fn is_group(k: Kind) -> bool
     ensures { λ r. ⌜ r ≡ isGroup k ⌝ }
 {
-    match k {
-        Kind::FORM => true,
-        Kind::LIST => true,
-        Kind::CAT => true,
-        Kind::PROP => true,
-        Kind::FILLER => false,
-        Kind::LOCAL => false,
-    }
+    rank(k) <= 3
 }
 
 pub fn is_section(k: Kind) -> bool
     ensures { λ r. ⌜ r ≡ isSection k ⌝ }
 {
-    match k {
-        Kind::FORM => true,
-        Kind::LIST => true,
-        Kind::CAT => true,
-        Kind::PROP => false,
-        Kind::FILLER => false,
-        Kind::LOCAL => false,
-    }
-}
-
-fn in_form(k: Kind) -> bool
-    ensures { λ r. ⌜ r ≡ inForm k ⌝ }
-{
-    match k {
-        Kind::FORM => true,
-        Kind::LIST => true,
-        Kind::CAT => true,
-        Kind::PROP => false,
-        Kind::FILLER => true,
-        Kind::LOCAL => true,
-    }
-}
-
-fn in_prop(k: Kind) -> bool
-    ensures { λ r. ⌜ r ≡ inProp k ⌝ }
-{
-    match k {
-        Kind::FORM => false,
-        Kind::LIST => false,
-        Kind::CAT => false,
-        Kind::PROP => false,
-        Kind::FILLER => true,
-        Kind::LOCAL => true,
-    }
-}
-
-fn in_list(k: Kind) -> bool
-    ensures { λ r. ⌜ r ≡ inList k ⌝ }
-{
-    match k {
-        Kind::FORM => true,
-        Kind::LIST => true,
-        Kind::CAT => true,
-        Kind::PROP => true,
-        Kind::FILLER => true,
-        Kind::LOCAL => false,
-    }
-}
-
-fn in_cat(k: Kind) -> bool
-    ensures { λ r. ⌜ r ≡ inCat k ⌝ }
-{
-    match k {
-        Kind::FORM => true,
-        Kind::LIST => true,
-        Kind::CAT => true,
-        Kind::PROP => false,
-        Kind::FILLER => true,
-        Kind::LOCAL => false,
-    }
+    rank(k) <= 2
 }
 
 fn allowed(w: Position, k: Kind) -> bool
     ensures { λ r. ⌜ r ≡ allowed w k ⌝ }
 {
+    let n = rank(k);
     match w {
-        Position::Outermost => is_section(k),
-        Position::InForm => in_form(k),
-        Position::InProp => in_prop(k),
-        Position::InList => in_list(k),
-        Position::InCat => in_cat(k),
+        Position::Outermost => n <= 2,
+        Position::InForm => n != 3,
+        Position::InProp => 4 <= n,
+        Position::InList => n <= 4,
+        Position::InCat => (n != 3) & (n <= 4),
     }
 }
 
@@ -122,35 +67,17 @@ pub fn misplaced(w: Position, n: Name, k: Kind) -> bool
     requires { ⌜ k ≡ kindOf (n .code) ⌝ }
     ensures { λ r. ⌜ r ≡ misplaced w (n .code) ⌝ }
 {
-    if n.code == Name::JJJJ.code {
-        return true;
-    }
-    !allowed(w, k)
+    (n.code == Name::JJJJ.code) | !allowed(w, k)
 }
 
 pub fn inside(k: Kind) -> Position
     ensures { λ r. ⌜ r ≡ inside k ⌝ }
 {
     match k {
-        Kind::FORM => Position::InForm,
         Kind::LIST => Position::InList,
         Kind::CAT => Position::InCat,
         Kind::PROP => Position::InProp,
-        Kind::FILLER => Position::InForm,
-        Kind::LOCAL => Position::InForm,
-    }
-}
-
-fn after_in_list(k: Kind) -> Position
-    ensures { λ r. ⌜ r ≡ afterInList k ⌝ }
-{
-    match k {
-        Kind::FORM => Position::InCat,
-        Kind::LIST => Position::InCat,
-        Kind::CAT => Position::InCat,
-        Kind::PROP => Position::InList,
-        Kind::FILLER => Position::InList,
-        Kind::LOCAL => Position::InList,
+        Kind::FORM | Kind::FILLER | Kind::LOCAL => Position::InForm,
     }
 }
 
@@ -158,23 +85,24 @@ pub fn after(w: Position, k: Kind) -> Position
     ensures { λ r. ⌜ r ≡ after w k ⌝ }
 {
     match w {
-        Position::Outermost => Position::Outermost,
-        Position::InForm => Position::InForm,
-        Position::InProp => Position::InProp,
-        Position::InList => after_in_list(k),
-        Position::InCat => Position::InCat,
+        Position::InList => {
+            if is_section(k) {
+                Position::InCat
+            } else {
+                Position::InList
+            }
+        }
+        _ => w,
     }
 }
 
 pub fn group_type(k: Kind, t: Name) -> bool
     ensures { λ r. ⌜ r ≡ groupType k (t .code) ⌝ }
 {
-    match k {
-        Kind::FORM => t.is_type(),
-        Kind::LIST => t.is_well_formed(),
-        Kind::CAT => t.is_well_formed(),
-        Kind::PROP => t.is_type(),
-        Kind::FILLER => false,
-        Kind::LOCAL => false,
+    let n = rank(k);
+    if (n == 0) | (n == 3) {
+        t.is_type()
+    } else {
+        (n <= 2) & t.is_well_formed()
     }
 }

@@ -1,5 +1,5 @@
 -- The search over all classes says it of a long run; before place 0 there is no PROP.
-use Rattle.props.proofs.RepeatLaws.{repeat-laws}
+use Rattle.props.proofs.RepeatLaws.{fresh-none}
 use borrow.Author.Needs.{needs}
 use Rattle.props.proofs.fresh_in_list.Statement.{statement}
 use Rattle.props.proofs.fresh_in_list.Tie as tie
@@ -9,7 +9,7 @@ use Rattle.props.proofs.fresh_before.Reads as fresh-before-reads
 use Rattle.props.proofs.prop_run.Reads as prop-run-reads
 
 returns : tie.Need-returns
-returns c = search (repeat-laws, needs)
+returns c = fresh-none _ _
 
 sub-prop-run : tie.Need-sub-prop-run
 sub-prop-run c = search needs
@@ -18,13 +18,13 @@ prop-run-requires : tie.Need-prop-run-requires
 prop-run-requires c κs = search needs
 
 returns-2 : tie.Need-returns-2
-returns-2 c = search (repeat-laws, needs)
+returns-2 c = fresh-none _ _
 
 fresh-before-requires : tie.Need-fresh-before-requires
 fresh-before-requires c κs = search needs
 
 returns-3 : tie.Need-returns-3
-returns-3 c = search needs
+returns-3 c = c .fresh-before .ensures
 
 pub fresh-in-list-spec : {M : Type 1} → statement M
 fresh-in-list-spec =

@@ -1,16 +1,16 @@
--- The loop keeps what is still to come equal to the whole answer; one turn and the end are laws of Laws.antt.
+-- The loop keeps what is still to come equal to the whole answer; one turn and the end are laws of ScanLaws.antt.
 use Prim.Native.Nat.{ℕ, _-_}
 use mathlib.Core.Path.{refl}
 use native.Mathlib.Omega.{arith}
 use borrow.Author.Needs.{needs}
 use Rattle.rules.specs.Rules.{propBefore}
-use Rattle.props.proofs.ScanLaws.{laws, Scans}
+use Rattle.props.proofs.ScanLaws.{Scans, scans-hit, scans-more, scans-end}
 use Rattle.props.proofs.prop_before.Statement.{statement}
 use Rattle.props.proofs.prop_before.Tie as tie
 use Rattle.props.proofs.prop_before.Reads as reads
 use Rattle.props.proofs.prop_before.Lts as lts
 use Rattle.props.proofs.prop_at.Reads as prop-at-reads
-use Rattle.chunk.proofs.size_at.Reads as size-at-reads
+use Rattle.chunk.proofs.next_at.Reads as next-at-reads
 
 abbrev Inv-loop : tie.InvT-loop
 Inv-loop s from p t q₀ q = Scans s q p (t .code) (propBefore s from p (t .code))
@@ -25,31 +25,19 @@ prop-at-requires : tie.Need-prop-at-requires Inv-loop μ-loop
 prop-at-requires c κs = search needs
 
 returns : tie.Need-returns Inv-loop μ-loop
-returns c = search (laws, needs)
+returns c = search (scans-hit, needs)
 
-add-size-at : tie.Need-add-size-at Inv-loop μ-loop
-add-size-at c = search (laws, needs)
-
-size-at-requires : tie.Need-size-at-requires Inv-loop μ-loop
-size-at-requires c κs = search needs
-
-add-q : tie.Need-add-q Inv-loop μ-loop
-add-q c = search (laws, needs)
-
-add-q-2 : tie.Need-add-q-2 Inv-loop μ-loop
-add-q-2 c = search (laws, needs)
-
-add-q-3 : tie.Need-add-q-3 Inv-loop μ-loop
-add-q-3 c = search (laws, needs)
+next-at-requires : tie.Need-next-at-requires Inv-loop μ-loop
+next-at-requires c κs = search needs
 
 loop-less : tie.Need-loop-less Inv-loop μ-loop
-loop-less c = search (laws, needs)
+loop-less c = search needs
 
 loop-again : tie.Need-loop-again Inv-loop μ-loop
-loop-again c = search (laws, needs)
+loop-again c = search (scans-more, needs)
 
 returns-2 : tie.Need-returns-2 Inv-loop μ-loop
-returns-2 c = search (laws, needs)
+returns-2 c = search (scans-end, needs)
 
 pub prop-before-spec : {M : Type 1} → statement M
 prop-before-spec =
@@ -60,11 +48,7 @@ prop-before-spec =
     loop-holds
     prop-at-requires
     returns
-    add-size-at
-    size-at-requires
-    add-q
-    add-q-2
-    add-q-3
+    next-at-requires
     loop-less
     loop-again
     returns-2)

@@ -5,7 +5,6 @@ use Rattle.props.proofs.prop_run.Statement.{statement}
 use Rattle.props.proofs.prop_run.Tie as tie
 use Rattle.props.proofs.prop_run.Reads as reads
 use Rattle.props.proofs.prop_run.Lts as lts
-use Rattle.props.proofs.in_run.Reads as in-run-reads
 use Rattle.chunk.proofs.name_at.Reads as name-at-reads
 use Rattle.chunk.proofs.next_at.Reads as next-at-reads
 
@@ -20,9 +19,6 @@ loop-holds c = search needs
 
 name-at-requires : tie.Need-name-at-requires Inv-loop μ-loop
 name-at-requires c κs = search needs
-
-in-run-requires : tie.Need-in-run-requires Inv-loop μ-loop
-in-run-requires c κs = search needs
 
 returns : tie.Need-returns Inv-loop μ-loop
 returns c = search needs
@@ -50,7 +46,6 @@ prop-run-spec =
     μ-loop
     loop-holds
     name-at-requires
-    in-run-requires
     returns
     next-at-requires
     add-chunks

@@ -1,20 +1,13 @@
 -- The name JJJJ, or a kind that is not allowed here.
-use Rattle.rules.proofs.Laws.{laws}
-use borrow.Author.Needs.{needs}
+use Rattle.rules.proofs.Laws.{misplaced-kind}
 use Rattle.rules.proofs.misplaced.Statement.{statement}
 use Rattle.rules.proofs.misplaced.Tie as tie
-use Rattle.rules.proofs.misplaced.Reads as reads
-use Rattle.rules.proofs.misplaced.Lts as lts
-use Rattle.rules.proofs.allowed.Reads as allowed-reads
-
-returns : tie.Need-returns
-returns c = search (laws, needs)
 
 allowed-requires : tie.Need-allowed-requires
-allowed-requires c κs = search needs
+allowed-requires c κs = tt
 
-returns-2 : tie.Need-returns-2
-returns-2 c = search (laws, needs)
+returns : tie.Need-returns
+returns c = misplaced-kind (c .before .before .before .args .w) _ (c .before .before .before .pre) (c .allowed .ensures)
 
 pub misplaced-spec : {M : Type 1} → statement M
-misplaced-spec = tie.close (tie.spec returns allowed-requires returns-2)
+misplaced-spec = tie.close (tie.spec allowed-requires returns)

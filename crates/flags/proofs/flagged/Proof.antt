@@ -1,13 +1,13 @@
 -- The flag of the PROP's type is read and then set; of any other chunk nothing changes.
-use Rattle.props.proofs.RepeatLaws.{repeat-laws}
+use Rattle.flags.proofs.FlagLaws.{flag-laws}
 use borrow.Author.Needs.{needs}
-use Rattle.props.proofs.flagged.Statement.{statement}
-use Rattle.props.proofs.flagged.Tie as tie
-use Rattle.props.proofs.flagged.Reads as reads
-use Rattle.props.proofs.flagged.Lts as lts
-use Rattle.props.proofs.in_class.Reads as in-class-reads
+use Rattle.flags.proofs.flagged.Statement.{statement}
+use Rattle.flags.proofs.flagged.Tie as tie
+use Rattle.flags.proofs.flagged.Reads as reads
+use Rattle.flags.proofs.flagged.Lts as lts
+use Rattle.flags.proofs.in_class.Reads as in-class-reads
 use Rattle.chunk.proofs.name_at.Reads as name-at-reads
-use Rattle.props.proofs.slot.Reads as slot-reads
+use Rattle.flags.proofs.slot.Reads as slot-reads
 
 in-class-requires : tie.Need-in-class-requires
 in-class-requires c κs = search needs
@@ -19,7 +19,7 @@ name-at-requires : tie.Need-name-at-requires
 name-at-requires c κs = search needs
 
 slot-requires : tie.Need-slot-requires
-slot-requires c κs = search needs
+slot-requires c κs = tt
 
 element-copy-out-before : tie.Need-element-copy-out-before
 element-copy-out-before c = search needs
@@ -28,10 +28,10 @@ element-write-flags : tie.Need-element-write-flags
 element-write-flags c = search needs
 
 returns : tie.Need-returns
-returns c = search (repeat-laws, needs)
+returns c = search (flag-laws, needs)
 
 returns-2 : tie.Need-returns-2
-returns-2 c = search (repeat-laws, needs)
+returns-2 c = search (flag-laws, needs)
 
 pub flagged-spec : {M : Type 1} → statement M
 flagged-spec =

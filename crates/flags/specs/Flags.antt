@@ -7,7 +7,7 @@ use lib.Dec.{leb, ltb, eqb}
 use borrow.Author.Tests.{lt-ltb, le-ltb, leb-true, leb-false, eqb-true}
 use native.Mathlib.Omega.{arith}
 use Rattle.name.specs.Name.{both, either, pick, typeByte, typeBytes, byte0, byte1, byte2, byte3}
-use Rattle.props.specs.Repeats.{digitOf, classOf, slotOf}
+use Rattle.flags.specs.Classes.{digitOf, classOf, slotOf}
 
 pub digit-below : (b : ℕ) → digitOf b < 38
 unfolding digitOf

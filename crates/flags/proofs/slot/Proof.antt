@@ -1,20 +1,20 @@
 -- The three digits, each below 38, make the slot, which is below 19 * 38 * 38.
-use Rattle.props.proofs.RepeatLaws.{repeat-laws}
+use Rattle.flags.proofs.FlagLaws.{flag-laws}
 use borrow.Author.Needs.{needs}
-use Rattle.props.proofs.slot.Statement.{statement}
-use Rattle.props.proofs.slot.Tie as tie
-use Rattle.props.proofs.slot.Reads as reads
-use Rattle.props.proofs.slot.Lts as lts
-use Rattle.props.proofs.digit.Reads as digit-reads
+use Rattle.flags.proofs.slot.Statement.{statement}
+use Rattle.flags.proofs.slot.Tie as tie
+use Rattle.flags.proofs.slot.Reads as reads
+use Rattle.flags.proofs.slot.Lts as lts
+use Rattle.flags.proofs.digit.Reads as digit-reads
 
 digit-requires : tie.Need-digit-requires
-digit-requires c κs = search needs
+digit-requires c κs = tt
 
 digit-requires-2 : tie.Need-digit-requires-2
-digit-requires-2 c κs = search needs
+digit-requires-2 c κs = tt
 
 digit-requires-3 : tie.Need-digit-requires-3
-digit-requires-3 c κs = search needs
+digit-requires-3 c κs = tt
 
 mul-result : tie.Need-mul-result
 mul-result c = search needs
@@ -29,7 +29,7 @@ add-result-2 : tie.Need-add-result-2
 add-result-2 c = search needs
 
 returns : tie.Need-returns
-returns c = search (repeat-laws, needs)
+returns c = search (flag-laws, needs)
 
 pub slot-spec : {M : Type 1} → statement M
 slot-spec =

@@ -1,8 +1,8 @@
 -- A PROP's type is read, and its class compared; anything else is of no class.
-use Rattle.props.proofs.RepeatLaws.{repeat-laws}
+use Rattle.flags.proofs.FlagLaws.{flag-laws}
 use borrow.Author.Needs.{needs}
-use Rattle.props.proofs.in_class.Statement.{statement}
-use Rattle.props.proofs.in_class.Tie as tie
+use Rattle.flags.proofs.in_class.Statement.{statement}
+use Rattle.flags.proofs.in_class.Tie as tie
 
 name-at-requires : tie.Need-name-at-requires
 name-at-requires c κs = search needs
@@ -14,13 +14,13 @@ name-at-requires-2 : tie.Need-name-at-requires-2
 name-at-requires-2 c κs = search needs
 
 class-of-requires : tie.Need-class-of-requires
-class-of-requires c κs = search needs
+class-of-requires c κs = tt
 
 returns : tie.Need-returns
-returns c = search (repeat-laws, needs)
+returns c = search (flag-laws, needs)
 
 returns-2 : tie.Need-returns-2
-returns-2 c = search (repeat-laws, needs)
+returns-2 c = search (flag-laws, needs)
 
 pub in-class-spec : {M : Type 1} → statement M
 in-class-spec =

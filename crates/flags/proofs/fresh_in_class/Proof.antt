@@ -2,13 +2,13 @@
 use Prim.Native.Nat.{ℕ, _-_}
 use mathlib.Core.Path.{_≡_}
 use lib.ListN.{length, length-replicate}
-use Rattle.props.proofs.RepeatLaws.{repeat-laws, Tracked}
+use Rattle.flags.proofs.FlagLaws.{flag-laws, Tracked}
 use borrow.Author.Needs.{needs}
-use Rattle.props.proofs.fresh_in_class.Statement.{statement}
-use Rattle.props.proofs.fresh_in_class.Tie as tie
-use Rattle.props.proofs.fresh_in_class.Reads as reads
-use Rattle.props.proofs.fresh_in_class.Lts as lts
-use Rattle.props.proofs.flagged.Reads as flagged-reads
+use Rattle.flags.proofs.fresh_in_class.Statement.{statement}
+use Rattle.flags.proofs.fresh_in_class.Tie as tie
+use Rattle.flags.proofs.fresh_in_class.Reads as reads
+use Rattle.flags.proofs.fresh_in_class.Lts as lts
+use Rattle.flags.proofs.flagged.Reads as flagged-reads
 use Rattle.chunk.proofs.next_at.Reads as next-at-reads
 
 abbrev Inv-loop : tie.InvT-loop
@@ -18,25 +18,25 @@ abbrev μ-loop : tie.MeasureT-loop
 μ-loop s from limit class flags₀ q₀ flags q = limit - q
 
 loop-holds : tie.Need-loop-holds Inv-loop μ-loop
-loop-holds c = (length-replicate {A = ℕ} 27436 0, search (repeat-laws, needs))
+loop-holds c = (length-replicate {A = ℕ} 27436 0, search (flag-laws, needs))
 
 flagged-requires : tie.Need-flagged-requires Inv-loop μ-loop
-flagged-requires c κs = search (repeat-laws, needs)
+flagged-requires c κs = search (flag-laws, needs)
 
 returns : tie.Need-returns Inv-loop μ-loop
-returns c = search (repeat-laws, needs)
+returns c = search (flag-laws, needs)
 
 next-at-requires : tie.Need-next-at-requires Inv-loop μ-loop
-next-at-requires c κs = search (repeat-laws, needs)
+next-at-requires c κs = search (flag-laws, needs)
 
 loop-less : tie.Need-loop-less Inv-loop μ-loop
-loop-less c = search (repeat-laws, needs)
+loop-less c = search (flag-laws, needs)
 
 loop-again : tie.Need-loop-again Inv-loop μ-loop
-loop-again c = search (repeat-laws, needs)
+loop-again c = search (flag-laws, needs)
 
 returns-2 : tie.Need-returns-2 Inv-loop μ-loop
-returns-2 c = search (repeat-laws, needs)
+returns-2 c = search (flag-laws, needs)
 
 pub fresh-in-class-spec : {M : Type 1} → statement M
 fresh-in-class-spec =
