@@ -1,9 +1,9 @@
 -- `judge_rows` meets its contract. The loop's invariant: the rows after the first k are told of as all the rows are; the measure is their number.
 use Prim.Native.Nat.{_-_, _≤_}
 use borrow.Author.Needs.{needs}
-use Rattle.scan.proofs.Judging.{Judged, judging}
-use Rattle.scan.proofs.judge_rows.Statement.{statement}
-use Rattle.scan.proofs.judge_rows.Tie as tie
+use Rattle.plane_rows.proofs.Judging.{Judged, judging}
+use Rattle.plane_rows.proofs.judge_rows.Statement.{statement}
+use Rattle.plane_rows.proofs.judge_rows.Tie as tie
 
 abbrev Inv-loop : tie.InvT-loop
 Inv-loop body at n rows compression q₀ k₀ q k = (k ≤ rows) × Judged compression body n rows at k q

@@ -1,12 +1,12 @@
 -- `write_line` meets its contract: the rows stand in the buffer, and the pixels are gathered from those of the planes.
 use native.Mathlib.Omega.{arith}
 use borrow.Author.Needs.{needs}
-use Rattle.scan.proofs.Lines.{lines, planes-fit}
-use Rattle.scan.proofs.write_line.Statement.{statement}
-use Rattle.scan.proofs.write_line.Tie as tie
+use Rattle.plane_rows.proofs.Lines.{lines, planes-fit}
+use Rattle.plane_rows.proofs.write_line.Statement.{statement}
+use Rattle.plane_rows.proofs.write_line.Tie as tie
 
 row-length-requires : tie.Need-row-length-requires
-row-length-requires c κs = search (lines, needs)
+row-length-requires c κs = omega arith
 
 write-rows-requires : tie.Need-write-rows-requires
 write-rows-requires c κs = search (lines, needs)
@@ -21,10 +21,10 @@ gather-requires c κs =
     )
 
 same-length : tie.Need-same-length
-same-length c = search (lines, needs)
+same-length c = search needs
 
 same-length-2 : tie.Need-same-length-2
-same-length-2 c = search (lines, needs)
+same-length-2 c = search needs
 
 returns : tie.Need-returns
 returns c = search (lines, needs)

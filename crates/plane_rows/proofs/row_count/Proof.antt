@@ -1,8 +1,8 @@
 -- `row_count` meets its contract, by whether there is a mask row.
 use native.Mathlib.Omega.{arith}
 use borrow.Author.Needs.{needs}
-use Rattle.scan.proofs.row_count.Statement.{statement}
-use Rattle.scan.proofs.row_count.Tie as tie
+use Rattle.plane_rows.proofs.row_count.Statement.{statement}
+use Rattle.plane_rows.proofs.row_count.Tie as tie
 
 add-result : tie.Need-add-result
 add-result c = search needs

@@ -11,10 +11,10 @@ use native.Mathlib.Omega.{arith}
 use Rattle.ilbm.specs.Rows.{rowLength, Read, read, fault, thenRead, rowRead, rowsFrom, coloursFrom, written}
 use Rattle.byterun.specs.ByteRun.{rowOf}
 use Rattle.gather.proofs.Colours.{row-room}
-use Rattle.scan.specs.Scan.{told, IsRead, lineBy, linesBy}
-use Rattle.scan.specs.declared.Scanned.{Scanned}
-use Rattle.scan.specs.declared.Scanned.the-variants.{Next, Fault}
-use Rattle.scan.proofs.Judging.{onward, told-onward, told-next, told-read, told-fault}
+use Rattle.plane_rows.specs.Scan.{told, IsRead, lineBy, linesBy}
+use Rattle.plane_rows.specs.declared.Scanned.{Scanned}
+use Rattle.plane_rows.specs.declared.Scanned.the-variants.{Next, Fault}
+use Rattle.plane_rows.proofs.Judging.{onward, told-onward, told-next, told-read, told-fault}
 
 -- a + b rows are a rows, and then b
 rows-add :

@@ -7,9 +7,9 @@ use Rattle.byterun.specs.ByteRun.{Row, filled, over, short, rowOf, answerOf}
 use Rattle.byterun.specs.declared.RowAnswer.{RowAnswer}
 use Rattle.byterun.specs.declared.RowAnswer.the-variants.{Full, Oversteps, Ends}
 use Rattle.ilbm.specs.Rows.{Read, read, fault, thenRead, rowRead, rowsFrom, written}
-use Rattle.scan.specs.Scan.{told, IsRead}
-use Rattle.scan.specs.declared.Scanned.{Scanned}
-use Rattle.scan.specs.declared.Scanned.the-variants.{Next, Fault}
+use Rattle.plane_rows.specs.Scan.{told, IsRead}
+use Rattle.plane_rows.specs.declared.Scanned.{Scanned}
+use Rattle.plane_rows.specs.declared.Scanned.the-variants.{Next, Fault}
 
 -- what is told of a reading settles whether it is read, and what is written
 module _ {A : Type 0} (v : Read A) (r : Scanned) (j : r ≡ told v) where

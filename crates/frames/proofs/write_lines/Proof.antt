@@ -5,10 +5,10 @@ use native.Mathlib.Omega.{arith}
 use lib.ListN.{length}
 use borrow.Author.Needs.{needs}
 use borrow.Rule.Slice.PartMut.{same-len-mid}
-use Rattle.scan.proofs.Writing.{part-long}
-use Rattle.scan.proofs.Frame.{Drawn, drawing, line-inside, drawn-line, drawn-more, drawn-end}
-use Rattle.scan.proofs.write_lines.Statement.{statement}
-use Rattle.scan.proofs.write_lines.Tie as tie
+use Rattle.plane_rows.proofs.Writing.{part-long}
+use Rattle.frames.proofs.Frame.{Drawn, drawing, line-inside, drawn-line, drawn-more, drawn-end}
+use Rattle.frames.proofs.write_lines.Statement.{statement}
+use Rattle.frames.proofs.write_lines.Tie as tie
 
 abbrev Inv-loop : tie.InvT-loop
 Inv-loop body w h planes rows compression buffer₀ frame₀ q₀ y₀ buffer frame q y =

@@ -9,10 +9,10 @@ use native.Mathlib.Omega.{arith}
 use Rattle.name.specs.Name.{pick}
 use Rattle.ilbm.specs.Rows.{rowLength, Read, read, fault, thenRead, rowsFrom, coloursFrom, written}
 use Rattle.gather.specs.Buffer.{rowsIn}
-use Rattle.scan.specs.Scan.{told, IsRead, lineBy}
-use Rattle.scan.proofs.Judging.{told-next, told-read, told-fault}
-use Rattle.scan.specs.declared.Scanned.{Scanned}
-use Rattle.scan.specs.declared.Scanned.the-variants.{Next, Fault}
+use Rattle.plane_rows.specs.Scan.{told, IsRead, lineBy}
+use Rattle.plane_rows.proofs.Judging.{told-next, told-read, told-fault}
+use Rattle.plane_rows.specs.declared.Scanned.{Scanned}
+use Rattle.plane_rows.specs.declared.Scanned.the-variants.{Next, Fault}
 
 -- a line has at most nine rows, which have room in a buffer of nine times their length
 pub line-rows : (planes : ℕ) (masked : Bool) → planes ≤ 8 → planes + pick masked 1 0 ≤ 9

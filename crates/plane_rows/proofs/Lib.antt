@@ -1,4 +1,3 @@
 pub mod Judging
-pub mod Writing
 pub mod Lines
-pub mod Frame
+pub mod Writing

@@ -5,8 +5,8 @@ use mathlib.Core.List.{List, [], _++_}
 use lib.ListN.{take}
 use Rattle.ilbm.specs.Rows.{rowLength, rowsInLine, Read, read, fault, thenRead, rowsFrom, coloursFrom, lineFrom, linesFrom}
 use Rattle.ilbm.specs.declared.BitmapHeader.{BitmapHeader}
-use Rattle.scan.specs.declared.Scanned.{Scanned}
-use Rattle.scan.specs.declared.Scanned.the-variants.{Next, Fault}
+use Rattle.plane_rows.specs.declared.Scanned.{Scanned}
+use Rattle.plane_rows.specs.declared.Scanned.the-variants.{Next, Fault}
 
 -- what is told of a reading: its next place, or its fault
 abbrev pub told : {A : Type 0} → Read A → Scanned

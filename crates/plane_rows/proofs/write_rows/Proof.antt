@@ -5,9 +5,9 @@ use native.Mathlib.Omega.{arith}
 use lib.ListN.{length}
 use borrow.Author.Needs.{needs}
 use borrow.Rule.Slice.PartMut.{same-len-mid}
-use Rattle.scan.proofs.Writing.{Written, writing, part-long, to-inside, written-full, written-more}
-use Rattle.scan.proofs.write_rows.Statement.{statement}
-use Rattle.scan.proofs.write_rows.Tie as tie
+use Rattle.plane_rows.proofs.Writing.{Written, writing, part-long, to-inside, written-full, written-more}
+use Rattle.plane_rows.proofs.write_rows.Statement.{statement}
+use Rattle.plane_rows.proofs.write_rows.Tie as tie
 
 abbrev Inv-loop : tie.InvT-loop
 Inv-loop body at n rows compression buffer₀ q₀ k₀ buffer q k =

@@ -12,8 +12,8 @@ use Rattle.byterun.specs.ByteRun.{Row, filled, over, short, rowOf, IsFull}
 use Rattle.ilbm.specs.Rows.{Read, read, fault, thenRead, rowRead, rowsFrom}
 use Rattle.gather.specs.Buffer.{rowsIn}
 use Rattle.gather.proofs.Colours.{row-room}
-use Rattle.scan.specs.Scan.{IsRead}
-use Rattle.scan.proofs.Judging.{onward, rows-once, rows-none}
+use Rattle.plane_rows.specs.Scan.{IsRead}
+use Rattle.plane_rows.proofs.Judging.{onward, rows-once, rows-none}
 
 -- what lies inside the first of two lists is found there
 part-left : (n j : ℕ) (xs ys : List ℕ) → j + n ≤ length xs → take n (drop j (xs ++ ys)) ≡ take n (drop j xs)

@@ -3,22 +3,22 @@ use Prim.Native.Nat.{ℕ}
 use native.Mathlib.Omega.{arith}
 use lib.ListN.{length-replicate}
 use borrow.Author.Needs.{needs}
-use Rattle.scan.proofs.Frame.{frame-judged, frame-rows-fit, frame-read, frame-fault}
-use Rattle.scan.proofs.Lines.{rows-room}
-use Rattle.scan.proofs.scan_frame.Statement.{statement}
-use Rattle.scan.proofs.scan_frame.Tie as tie
+use Rattle.frames.proofs.Frame.{frame-judged, frame-rows-fit, frame-read, frame-fault}
+use Rattle.plane_rows.proofs.Lines.{rows-room}
+use Rattle.frames.proofs.scan_frame.Statement.{statement}
+use Rattle.frames.proofs.scan_frame.Tie as tie
 
 row-length-requires : tie.Need-row-length-requires
-row-length-requires c κs = search needs
+row-length-requires c κs = omega arith
 
 row-count-requires : tie.Need-row-count-requires
-row-count-requires c κs = search needs
+row-count-requires c κs = omega arith
 
 mul-judge-rows : tie.Need-mul-judge-rows
 mul-judge-rows c = frame-rows-fit _ _ (search needs) (search needs)
 
 judge-rows-requires : tie.Need-judge-rows-requires
-judge-rows-requires c κs = search needs
+judge-rows-requires c κs = tt
 
 enum-known-judged : tie.Need-enum-known-judged
 enum-known-judged c = search needs
