@@ -1,27 +1,16 @@
 -- The numbers told of a picture's properties; "any other number told beside it is 0".
-use Prim.Native.Nat.{ℕ, _+_}
-use mathlib.Core.List.{List}
+use Prim.Native.Nat.{ℕ}
 use lib.IntN.{pos}
-use lib.ListN.{length}
 use Rattle.ilbm.specs.declared.Origin.{Origin}
 use Rattle.ilbm.specs.declared.Origin.the-variants.{Own, Shared, Absent}
 use Rattle.ilbm.specs.declared.BitmapHeader.{BitmapHeader}
 use Rattle.ilbm.specs.declared.PictureAnswer.{PictureAnswer}
 use Rattle.ilbm.specs.declared.PictureAnswer.the-variants.{Shown, Refused}
-use Rattle.ilbm.specs.Contents.{CMAP}
-use Rattle.ilbm.specs.Places.{placeOf}
-use Rattle.ilbm.specs.Pictures.{Viewed, viewed, unseen, viewOf, dataOf, originOf}
-use Rattle.members.specs.Members.{fromOf}
-use Rattle.members.specs.declared.Part.{Part}
-use Rattle.members.specs.declared.Part.the-variants.{Nothing, Between}
-use Rattle.view.specs.declared.View.{View}
-use Rattle.view.specs.declared.View.the-variants.{Seen, Unseen}
 use Rattle.answers.specs.declared.HeaderTold.{HeaderTold}
 use Rattle.answers.specs.declared.GrabTold.{GrabTold}
 use Rattle.answers.specs.declared.DestinationTold.{DestinationTold}
 use Rattle.answers.specs.declared.SpriteTold.{SpriteTold}
 use Rattle.answers.specs.declared.ViewModeTold.{ViewModeTold}
-use Rattle.answers.specs.declared.PaletteParts.{PaletteParts}
 
 -- "Each property is told with its origin: own, shared with the place of the PROP, or absent": 1, 2 or 0, and the place, 0 unless shared
 abbrev pub originNumber : Origin → ℕ
@@ -77,37 +66,3 @@ unfoldable pub viewModeTold : PictureAnswer → ViewModeTold
 viewModeTold (Shown p) =
     record { number = 0; place = 0; «view_mode» = p .«view_mode»; origin = originNumber (p .«view_mode_from»); shared = sharedPlace (p .«view_mode_from») }
 viewModeTold (Refused k p) = record { number = k; place = p; «view_mode» = 0; origin = 0; shared = 0 }
-
--- The CMAP that counts: its origin, and where its data lies, "handed back as a part of the slice it came from"; 0 and 0 where none
--- counts, and after a refusal.
-unfoldable pub paletteTold : Viewed → ℕ → PaletteParts
-paletteTold (viewed c) start =
-    record {
-      number = 0;
-      place = 0;
-      origin = originNumber (originOf (c .cmap));
-      shared = sharedPlace (originOf (c .cmap));
-      from = start;
-      to = start + length (dataOf (c .cmap));
-    }
-paletteTold (unseen k p) start = record { number = k; place = p; origin = 0; shared = 0; from = 0; to = 0 }
-
-abbrev pub paletteExtent : List ℕ → ℕ → PaletteParts
-paletteExtent s i = paletteTold (viewOf s i) (placeOf s i CMAP)
-
--- the same of the parts that a view gives
-abbrev pub toOf : Part → ℕ
-toOf Nothing = 0
-toOf (Between a b) = b
-
-unfoldable pub paletteParts : View → PaletteParts
-paletteParts (Seen c) =
-    record {
-      number = 0;
-      place = 0;
-      origin = originNumber (c .cmap .origin);
-      shared = sharedPlace (c .cmap .origin);
-      from = fromOf (c .cmap .part);
-      to = toOf (c .cmap .part);
-    }
-paletteParts (Unseen k p) = record { number = k; place = p; origin = 0; shared = 0; from = 0; to = 0 }

@@ -4,13 +4,10 @@ use ilbm::Destination;
 use ilbm::HotSpot;
 use ilbm::Origin;
 use ilbm::PictureAnswer;
-use members::Part;
-use view::View;
 ghost use mathlib.Core.Path.{_≡_};
-ghost use Rattle.members.specs.Members.{fromOf};
-ghost use Rattle.answers.specs.Properties.{originNumber, sharedPlace, headerTold, grabTold, destinationTold, spriteTold, viewModeTold, toOf, paletteParts};
+ghost use Rattle.answers.specs.Properties.{originNumber, sharedPlace, headerTold, grabTold, destinationTold, spriteTold, viewModeTold};
 
-fn origin_number(o: Origin) -> usize
+pub fn origin_number(o: Origin) -> usize
     ensures { λ r. ⌜ r ≡ originNumber o ⌝ }
 {
     match o {
@@ -20,7 +17,7 @@ fn origin_number(o: Origin) -> usize
     }
 }
 
-fn shared_place(o: Origin) -> usize
+pub fn shared_place(o: Origin) -> usize
     ensures { λ r. ⌜ r ≡ sharedPlace o ⌝ }
 {
     match o {
@@ -216,62 +213,6 @@ pub fn view_mode_told(v: PictureAnswer) -> ViewModeTold
             view_mode: 0,
             origin: 0,
             shared: 0,
-        },
-    }
-}
-
-fn part_from(part: Part) -> usize
-    ensures { λ r. ⌜ r ≡ fromOf part ⌝ }
-{
-    match part {
-        Part::Nothing => 0,
-        Part::Between(from, _) => from,
-    }
-}
-
-fn part_to(part: Part) -> usize
-    ensures { λ r. ⌜ r ≡ toOf part ⌝ }
-{
-    match part {
-        Part::Nothing => 0,
-        Part::Between(_, to) => to,
-    }
-}
-
-// What is told of the CMAP that counts: its origin, and its part of the file.
-pub struct PaletteParts {
-    pub number: usize,
-    pub place: usize,
-    pub origin: usize,
-    pub shared: usize,
-    pub from: usize,
-    pub to: usize,
-}
-
-pub fn palette_parts(v: View) -> PaletteParts
-    ensures { λ r. ⌜ r ≡ paletteParts v ⌝ }
-{
-    match v {
-        View::Seen(c) => {
-            let cmap = c.cmap;
-            let part = cmap.part;
-            let o = cmap.origin;
-            PaletteParts {
-                number: 0,
-                place: 0,
-                origin: origin_number(o),
-                shared: shared_place(o),
-                from: part_from(part),
-                to: part_to(part),
-            }
-        }
-        View::Unseen(number, place) => PaletteParts {
-            number,
-            place,
-            origin: 0,
-            shared: 0,
-            from: 0,
-            to: 0,
         },
     }
 }

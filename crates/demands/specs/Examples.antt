@@ -11,7 +11,8 @@ use Rattle.header.specs.Checks.{groupHeaderOf, headerOf}
 use Rattle.tree.specs.Judge.{run, chunkAt, readFile, checkOf}
 use Rattle.tree.specs.declared.Verdict.the-variants.{Accepted, Refused}
 use Rattle.byterun.specs.ByteRun.{filled, over, short, codeOf, unpackBy, unpackRow, plainRow}
-use Rattle.pack.specs.Pack.{three, sameFor, plainFor, pieceOf, packBy, packed}
+use Rattle.pieces.specs.Pieces.{three, sameFor, plainFor, pieceOf}
+use Rattle.pack.specs.Pack.{packBy, packed}
 use Rattle.ilbm.specs.declared.BitmapHeader.{BitmapHeader}
 use Rattle.ilbm.specs.declared.PictureAnswer.the-variants.{Refused as Picture-refused}
 use Rattle.ilbm.specs.Contents.{lastOwn, lastShared, propertyOf, bodiesIn, propAmong, contentsFrom}

@@ -10,11 +10,12 @@ use mir.Syntax.{w64}
 use mir.Val.{Fits}
 use native.Mathlib.Omega.{arith}
 use native.Mathlib.Numerals.{add-one, one-add}
-use Rattle.pack.specs.Pack.{three, sameFor, plainFor, pieceOf, onPiece, packed}
+use Rattle.pieces.specs.Pieces.{three, sameFor, plainFor, pieceOf}
+use Rattle.pack.specs.Pack.{onPiece, packed}
 use Rattle.pack.specs.Laws.{Taken, piece-taken, packed-none, packed-step}
-use Rattle.pack.specs.declared.Piece.{Piece}
-use Rattle.pack.specs.declared.Piece.the-variants.{Repeat, Literal}
-use Rattle.pack.proofs.Scan.{first, three-known, piece-repeat, piece-literal}
+use Rattle.pieces.specs.declared.Piece.{Piece}
+use Rattle.pieces.specs.declared.Piece.the-variants.{Repeat, Literal}
+use Rattle.pieces.proofs.Scan.{first, piece-repeat, piece-literal}
 
 module _ (row : List ℕ) (i : ℕ) (r : Piece) (is : r ≡ pieceOf (drop i row)) (h : i < length row) where
   left : length (drop i row) ≡ length row - i
@@ -112,8 +113,6 @@ count-starts row = omega arith
 
 pub count-ends : (row : List ℕ) (i total v : ℕ) → length row ≤ i → total + length (packed (drop i row)) ≡ v → total ≡ v
 count-ends row i total v h w = let z = rw (packed-none (drop i row) (rw length-drop (omega arith))) at w in omega arith
-
-pub ruleset counting = (three-known, same-fits, same-less, same-total-fits, plain-fits, plain-less, plain-code-fits, plain-total-fits, count-starts, count-ends)
 
 -- ---- what is written
 
@@ -213,5 +212,3 @@ put-ends row out v w i at h d e f =
     let a : at ≡ length v = (let y = rw z at d in omega arith) in
     let t : take at out ≡ v = sym (append-nil (take at out)) ∙ (rw z at e) in
     sym (take-append-drop at out) ∙ (rw (t, a, f))
-
-pub ruleset putting = (repeat-fits, repeat-less, repeat-at-fits, literal-fits, literal-less, literal-at-code-fits, literal-at-fits, count-starts, count-ends, put-ends)

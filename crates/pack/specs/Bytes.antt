@@ -4,10 +4,11 @@ use mathlib.Core.List.{List, [], _∷_, _++_}
 use lib.ListN.{length, getD, take, drop, length-drop}
 use native.Mathlib.Omega.{arith}
 use Rattle.byterun.specs.Bytes.{Bytes, bytes-none, bytes-cons, bytes-at, bytes-append, bytes-take, bytes-drop}
-use Rattle.pack.specs.Pack.{pieceOf, onPiece, packed}
+use Rattle.pieces.specs.Pieces.{pieceOf}
+use Rattle.pack.specs.Pack.{onPiece, packed}
 use Rattle.pack.specs.Laws.{Taken, piece-taken, packed-none, packed-step}
-use Rattle.pack.specs.declared.Piece.{Piece}
-use Rattle.pack.specs.declared.Piece.the-variants.{Repeat, Literal}
+use Rattle.pieces.specs.declared.Piece.{Piece}
+use Rattle.pieces.specs.declared.Piece.the-variants.{Repeat, Literal}
 
 bytes-piece :
     (f : ℕ) (xs : List ℕ) → length xs ≤ suc f → Bytes xs → ((ys : List ℕ) → length ys ≤ f → Bytes ys → Bytes (packed ys)) → (p : Piece) → Taken xs p →

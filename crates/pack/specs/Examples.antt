@@ -2,7 +2,8 @@
 use mathlib.Core.Path.{_≡_, refl}
 use mathlib.Core.List.{[], _∷_}
 use lib.ListN.{replicate}
-use Rattle.pack.specs.Pack.{three, sameFor, plainFor, pieceOf, packBy, packed, packOf, numberOf, lengthOf}
+use Rattle.pieces.specs.Pieces.{three, sameFor, plainFor, pieceOf}
+use Rattle.pack.specs.Pack.{packBy, packed, packOf, numberOf, lengthOf}
 
 -- 07 07 packs to 01 07 07; 128 equal bytes to 81 b, 129 to 81 b 00 b, 131 to 81 b FE b. A row of no bytes is 31, and two bytes of room are
 -- too few for 07 07.

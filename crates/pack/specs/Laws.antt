@@ -11,9 +11,10 @@ use borrow.Author.Tests.{lt-ltb, le-ltb, ltb-true, ltb-false, eqb-true, eq-eqb}
 use native.Mathlib.Omega.{arith}
 use Rattle.byterun.specs.ByteRun.{pick}
 use Rattle.byterun.specs.Packing.{Packs, packs-none, packs-literal, packs-repeat}
-use Rattle.pack.specs.Pack.{three, sameFor, plainFor, pieceOf, onPiece, packBy, packed}
-use Rattle.pack.specs.declared.Piece.{Piece}
-use Rattle.pack.specs.declared.Piece.the-variants.{Repeat, Literal}
+use Rattle.pieces.specs.Pieces.{three, sameFor, plainFor, pieceOf}
+use Rattle.pack.specs.Pack.{onPiece, packBy, packed}
+use Rattle.pieces.specs.declared.Piece.{Piece}
+use Rattle.pieces.specs.declared.Piece.the-variants.{Repeat, Literal}
 
 -- ---- a repeat
 

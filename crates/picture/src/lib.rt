@@ -1,4 +1,4 @@
-// The picture call and the palette.
+// The picture call.
 use content::Contents;
 use content::Held;
 use fields::bitmap_header;
@@ -15,10 +15,8 @@ use members::Part;
 use view::View;
 use view::view_picture;
 ghost use mathlib.Core.Path.{_≡_};
-ghost use Prim.Native.Nat.{ℕ};
 ghost use Rattle.ilbm.specs.Pictures.{pictureOf};
-ghost use Rattle.ilbm.specs.Palette.{paletteAnswer, paletteSource, pointer};
-ghost use Rattle.picture.specs.Told.{OfSize, Judged, HeaderTold, GrabTold, DestinationTold, WordTold, LongTold, PictureTold, PartIn, partOr, partAt, ColoursAre};
+ghost use Rattle.picture.specs.Told.{OfSize, Judged, HeaderTold, GrabTold, DestinationTold, WordTold, LongTold, PictureTold};
 
 // The fields of BMHD, 0 if it is absent.
 pub fn header_of(s: &[u8], h: Held) -> BitmapHeader
@@ -135,69 +133,5 @@ pub fn picture(s: &[u8], i: usize) -> PictureAnswer
     match v {
         View::Seen(c) => PictureAnswer::Shown(picture_from(s, c)),
         View::Unseen(number, place) => PictureAnswer::Refused { number, place },
-    }
-}
-
-// The palette that was asked for: 0 and 0, or the number and place of a refusal; and its colours, three bytes each.
-pub struct PaletteAnswer<'a> {
-    pub number: usize,
-    pub place: usize,
-    pub colours: &'a [u8],
-}
-
-// The same with the colours as a part of the file; no part where the default is meant.
-pub struct Colours {
-    pub number: usize,
-    pub place: usize,
-    pub part: Part,
-}
-
-// Where the palette of picture i is taken from: the CMAP that counts, or nowhere; an empty part of the file after a refusal.
-pub fn colours_of(s: &[u8], i: usize) -> Colours
-    ensures { λ r. ⌜ ColoursAre (now (s .entry)) i r ⌝ }
-{
-    let v = view_picture(s, i);
-    match v {
-        View::Seen(c) => {
-            let cmap = c.cmap;
-            let part = cmap.part;
-            Colours {
-                number: 0,
-                place: 0,
-                part,
-            }
-        }
-        View::Unseen(number, place) => Colours {
-            number,
-            place,
-            part: Part::Between(0, 0),
-        },
-    }
-}
-
-// That part of the file, or the default.
-pub fn part_or<'a>(s: &'a [u8], c: Colours, default: &'a [u8]) -> &'a [u8]
-    requires { ⌜ PartIn (now s) (c .part) ⌝ }
-    ensures { λ r. ⌜ (now r ≡ partOr (now (s .entry)) (c .part) (now (default .entry))) ×
-        (r .ptr ≡ partAt (s .entry .ptr) (c .part) (default .entry .ptr)) ⌝ }
-{
-    let part = c.part;
-    match part {
-        Part::Nothing => default,
-        Part::Between(from, to) => &s[from..to],
-    }
-}
-
-// The palette of picture i: the CMAP that counts, as a part of the file, or the default where none counts; empty after a refusal.
-pub fn palette<'a>(s: &'a [u8], i: usize, default: &'a [u8]) -> PaletteAnswer<'a>
-    ensures { λ r. ⌜ (record { number = r .number; place = r .place; colours = now (r .colours) } ≡ paletteAnswer (now (s .entry)) i (now (default .entry))) ×
-        (r .colours .ptr ≡ pointer (paletteSource (now (s .entry)) i) (s .entry .ptr) (default .entry .ptr)) ⌝ }
-{
-    let c = colours_of(s, i);
-    let colours = part_or(s, c, default);
-    PaletteAnswer {
-        number: c.number,
-        place: c.place,
-        colours,
     }
 }

@@ -1,18 +1,14 @@
-// The exported calls on a picture's properties. Each returns 0 or the number of a refusal; whatever else it tells is 0 beside
+// The exported calls on a picture's properties but its palette. Each returns 0 or the number of a refusal; whatever else it tells is 0 beside
 // a refusal, but its place.
 use answers::destination_told;
 use answers::grab_told;
 use answers::header_told;
-use answers::palette_parts;
 use answers::sprite_told;
 use answers::view_mode_told;
 use picture::picture;
-use view::view_picture;
 ghost use mathlib.Core.Path.{_≡_};
-ghost use mathlib.Core.List.{[]};
-ghost use lib.Seq.{slice};
-ghost use Rattle.ilbm.specs.Pictures.{pictureOf, paletteOf};
-ghost use Rattle.answers.specs.Properties.{headerTold, grabTold, destinationTold, spriteTold, viewModeTold, paletteExtent};
+ghost use Rattle.ilbm.specs.Pictures.{pictureOf};
+ghost use Rattle.answers.specs.Properties.{headerTold, grabTold, destinationTold, spriteTold, viewModeTold};
 
 // The fields of the BMHD that counts for a picture, and its origin.
 #[no_mangle]
@@ -198,35 +194,5 @@ pub extern "C" fn ilbm_view_mode(
     *view_mode = told.view_mode;
     *origin = told.origin;
     *shared = told.shared;
-    told.number
-}
-
-// Where the CMAP that counts for a picture lies in the file, and its origin; with origin 0 the caller's default is the palette.
-#[no_mangle]
-pub extern "C" fn ilbm_palette(
-    file: &[u8],
-    number: usize,
-    place: &mut usize,
-    origin: &mut usize,
-    shared: &mut usize,
-    from: &mut usize,
-    to: &mut usize,
-) -> usize
-    ensures told { λ r. ⌜ record {
-      number = r;
-      place = now (place .exit);
-      origin = now (origin .exit);
-      shared = now (shared .exit);
-      from = now (from .exit);
-      to = now (to .exit);
-    } ≡ paletteExtent (now (file .entry)) number ⌝ }
-    ensures part { λ _. ⌜ slice (now (from .exit)) (now (to .exit)) (now (file .entry)) ≡ paletteOf (now (file .entry)) number [] ⌝ }
-{
-    let told = palette_parts(view_picture(file, number));
-    *place = told.place;
-    *origin = told.origin;
-    *shared = told.shared;
-    *from = told.from;
-    *to = told.to;
     told.number
 }

@@ -1,5 +1,5 @@
-// A reader that holds the lent file and its place in it. Each function over it takes it apart and leaves the work to a function of
-// the slice and the place, which asks nothing of the place: any place gives a record or the end.
+// Reading a file record by record, as functions of the file and a place in it. They ask nothing of the place: any place gives a
+// record or the end.
 use cursor::Cursor;
 use listing::Listed;
 use listing::Record;
@@ -12,11 +12,6 @@ ghost use Rattle.reader.specs.Reading.{openingOf, firstPlace, stepAt, pl
 pub struct Place {
     pub cursor: Cursor,
     pub chunks: usize,
-}
-
-pub struct Reader<'a> {
-    pub file: &'a [u8],
-    pub place: Place,
 }
 
 // What a reader gives: the record at its place, or that there is none left.
@@ -116,44 +111,4 @@ pub fn count_by_reading(s: &[u8]) -> usize
             }
         }
     }
-}
-
-// The reader of a file, at its first record.
-pub fn new<'a>(file: &'a [u8]) -> Reader<'a>
-    ensures { λ r. ⌜ (r .file ≡ file .entry) × (r .place ≡ firstPlace (now (file .entry))) ⌝ }
-{
-    let place = first_place(file);
-    Reader { file, place }
-}
-
-// What is told of a reader's file: the structure refusal, if any.
-pub fn told<'a>(r: Reader<'a>) -> Opening
-    ensures { λ o. ⌜ o ≡ openingOf (now (r .entry .file)) ⌝ }
-{
-    opening_of(r.file)
-}
-
-// The record at a reader's place, or the end.
-pub fn next<'a>(r: Reader<'a>) -> Step
-    ensures { λ x. ⌜ x ≡ stepAt (now (r .entry .file)) (r .entry .place) ⌝ }
-{
-    step_at(r.file, r.place)
-}
-
-// The reader one record further.
-pub fn advanced<'a>(r: Reader<'a>) -> Reader<'a>
-    ensures { λ q. ⌜ (q .file ≡ r .entry .file) × (q .place ≡ placeAfter (now (r .entry .file)) (r .entry .place)) ⌝ }
-{
-    let place = place_after(r.file, r.place);
-    Reader {
-        file: r.file,
-        place,
-    }
-}
-
-// What a new reader gives first.
-pub fn first(s: &[u8]) -> Step
-    ensures { λ r. ⌜ r ≡ stepAt (now (s .entry)) (firstPlace (now (s .entry))) ⌝ }
-{
-    next(new(s))
 }

@@ -31,9 +31,9 @@ use Rattle.view.specs.declared.View.{View}
 use Rattle.view.specs.declared.View.the-variants.{Seen, Unseen}
 use Rattle.view.specs.Seen.{ViewIs}
 use Rattle.picture.specs.Told.{Judged, HeaderTold}
-use Rattle.scan.specs.declared.Scanned.{Scanned}
-use Rattle.scan.specs.declared.Scanned.the-variants.{Next as Scanned-next, Fault}
-use Rattle.scan.specs.Scan.{told, lineBy, linesBy, line-is, lines-are}
+use Rattle.plane_rows.specs.declared.Scanned.{Scanned}
+use Rattle.plane_rows.specs.declared.Scanned.the-variants.{Next as Scanned-next, Fault}
+use Rattle.plane_rows.specs.Scan.{told, lineBy, linesBy, line-is, lines-are}
 use Rattle.rows.specs.Lines.{LineDone, FrameDone}
 
 -- the BODY that lies in a part

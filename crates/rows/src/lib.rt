@@ -1,11 +1,11 @@
 // The scan line and the frame of a picture.
 use content::Contents;
+use frames::scan_frame;
 use ilbm::FrameAnswer;
 use ilbm::LineAnswer;
 use members::Part;
 use picture::header_of;
-use scan::Scanned;
-use scan::scan_frame;
+use plane_rows::Scanned;
 use scan::scan_row;
 use view::View;
 use view::view_picture;

@@ -5,7 +5,8 @@ use mathlib.Core.List.{List, [], _∷_}
 use lib.IntN.{pos}
 use lib.ListN.{length}
 use Rattle.chunk.specs.Chunks.{bytes}
-use Rattle.pack.specs.Pack.{three, sameFor, plainFor, pieceOf, packBy, packed}
+use Rattle.pieces.specs.Pieces.{three, sameFor, plainFor, pieceOf}
+use Rattle.pack.specs.Pack.{packBy, packed}
 use Rattle.ilbm.specs.declared.BitmapHeader.{BitmapHeader}
 use Rattle.planes.specs.Planes.{planeByte, planeRow}
 use Rattle.body.specs.Body.{lineRows, bodyLines, bodyBytes}

@@ -3,19 +3,15 @@ use borrow.Author.Needs.{needs}
 use Rattle.answers.proofs.Properties.{grab-shown, grab-refused}
 use Rattle.answers.proofs.grab_told.Statement.{statement}
 use Rattle.answers.proofs.grab_told.Tie as tie
-use Rattle.answers.proofs.grab_told.Reads as reads
-use Rattle.answers.proofs.grab_told.Lts as lts
-use Rattle.answers.proofs.origin_number.Reads as origin-number-reads
-use Rattle.answers.proofs.shared_place.Reads as shared-place-reads
 
 enum-known-v : tie.Need-enum-known-v
 enum-known-v c = search needs
 
 origin-number-requires : tie.Need-origin-number-requires
-origin-number-requires c κs = search needs
+origin-number-requires c κs = tt
 
 shared-place-requires : tie.Need-shared-place-requires
-shared-place-requires c κs = search needs
+shared-place-requires c κs = tt
 
 enum-known-v-2 : tie.Need-enum-known-v-2
 enum-known-v-2 c = search needs

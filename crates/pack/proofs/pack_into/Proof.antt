@@ -4,9 +4,10 @@ use Prim.Native.Nat.{_+_, _-_, _≤_}
 use mathlib.Core.Path.{_≡_}
 use mathlib.Core.List.{_++_}
 use lib.ListN.{length, drop, take}
+use native.Mathlib.Omega.{arith}
 use borrow.Author.Needs.{needs}
 use Rattle.pack.specs.Pack.{packed}
-use Rattle.pack.proofs.Turns.{putting, repeat-room, repeat-put, literal-room, literal-put}
+use Rattle.pack.proofs.Turns.{count-starts, count-ends, repeat-fits, repeat-less, repeat-room, repeat-at-fits, repeat-put, literal-fits, literal-less, literal-room, literal-at-code-fits, literal-at-fits, literal-put, put-ends}
 use Rattle.pack.proofs.pack_into.Statement.{statement}
 use Rattle.pack.proofs.pack_into.Tie as tie
 
@@ -19,16 +20,16 @@ abbrev μ-loop : tie.MeasureT-loop
 μ-loop row out₀ from₀ at₀ out from at = length row - from
 
 loop-holds : tie.Need-loop-holds Inv-loop μ-loop
-loop-holds c = search (putting, needs)
+loop-holds c = search (count-starts, needs)
 
 piece-at-requires : tie.Need-piece-at-requires Inv-loop μ-loop
-piece-at-requires c κs = search (putting, needs)
+piece-at-requires c κs = omega arith
 
 enum-known-piece : tie.Need-enum-known-piece Inv-loop μ-loop
-enum-known-piece c = search (putting, needs)
+enum-known-piece c = search needs
 
 shared-slice-read-put-repeat : tie.Need-shared-slice-read-put-repeat Inv-loop μ-loop
-shared-slice-read-put-repeat c = search (putting, needs)
+shared-slice-read-put-repeat c = omega arith
 
 put-repeat-requires : tie.Need-put-repeat-requires Inv-loop μ-loop
 put-repeat-requires c κs =
@@ -38,13 +39,13 @@ put-repeat-requires c κs =
     repeat-room _ _ _ (a .before .before .piece-at .ensures) (a .before .before .before .loop-test .taken) (l .out) (packed (s .args .row .now)) _ _ (l .inv .1) (s .pre) (l .inv .2) _ (a .piece .given .1)
 
 add-from : tie.Need-add-from Inv-loop μ-loop
-add-from c = search (putting, needs)
+add-from c = search (repeat-fits, needs)
 
 add-at : tie.Need-add-at Inv-loop μ-loop
-add-at c = search (putting, needs)
+add-at c = search (repeat-at-fits, needs)
 
 loop-less : tie.Need-loop-less Inv-loop μ-loop
-loop-less c = search (putting, needs)
+loop-less c = search (repeat-less, needs)
 
 loop-again : tie.Need-loop-again Inv-loop μ-loop
 loop-again c =
@@ -54,7 +55,7 @@ loop-again c =
     repeat-put _ _ _ (a .before .before .piece-at .ensures) (a .before .before .before .loop-test .taken) (l .out) (packed (s .args .row .now)) _ _ (l .inv .1) (s .pre) (l .inv .2) _ (a .piece .given .1) _ _ (c .before .before .put-repeat .ensures) (l .inv .3) (l .inv .4)
 
 enum-known-piece-2 : tie.Need-enum-known-piece-2 Inv-loop μ-loop
-enum-known-piece-2 c = search (putting, needs)
+enum-known-piece-2 c = search needs
 
 put-literal-requires : tie.Need-put-literal-requires Inv-loop μ-loop
 put-literal-requires c κs =
@@ -64,16 +65,16 @@ put-literal-requires c κs =
     literal-room _ _ _ (a .before .before .piece-at .ensures) (a .before .before .before .loop-test .taken) (l .out) (packed (s .args .row .now)) _ _ (l .inv .1) (s .pre) (l .inv .2) _ (a .piece2 .given .1)
 
 add-from-2 : tie.Need-add-from-2 Inv-loop μ-loop
-add-from-2 c = search (putting, needs)
+add-from-2 c = search (literal-fits, needs)
 
 add-at-2 : tie.Need-add-at-2 Inv-loop μ-loop
-add-at-2 c = search (putting, needs)
+add-at-2 c = search (literal-at-code-fits, needs)
 
 add-at-3 : tie.Need-add-at-3 Inv-loop μ-loop
-add-at-3 c = search (putting, needs)
+add-at-3 c = search (literal-at-fits, needs)
 
 loop-less-2 : tie.Need-loop-less-2 Inv-loop μ-loop
-loop-less-2 c = search (putting, needs)
+loop-less-2 c = search (literal-less, needs)
 
 loop-again-2 : tie.Need-loop-again-2 Inv-loop μ-loop
 loop-again-2 c =
@@ -83,10 +84,10 @@ loop-again-2 c =
     literal-put _ _ _ (a .before .before .piece-at .ensures) (a .before .before .before .loop-test .taken) (l .out) (packed (s .args .row .now)) _ _ (l .inv .1) (s .pre) (l .inv .2) _ (a .piece2 .given .1) _ _ (c .before .before .put-literal .ensures) (l .inv .3) (l .inv .4)
 
 same-length : tie.Need-same-length Inv-loop μ-loop
-same-length c = search (putting, needs)
+same-length c = search needs
 
 returns : tie.Need-returns Inv-loop μ-loop
-returns c = search (putting, needs)
+returns c = search (count-ends, put-ends, needs)
 
 pub pack-into-spec : {M : Type 1} → statement M
 pack-into-spec =

@@ -3,9 +3,11 @@
 use Prim.Native.Nat.{_+_, _-_, _≤_}
 use mathlib.Core.Path.{_≡_}
 use lib.ListN.{length, drop}
+use native.Mathlib.Omega.{arith}
 use borrow.Author.Needs.{needs}
 use Rattle.pack.specs.Pack.{packed}
-use Rattle.pack.proofs.Turns.{counting, same-counted, plain-counted}
+use Rattle.pieces.proofs.Scan.{three-known}
+use Rattle.pack.proofs.Turns.{count-starts, count-ends, same-fits, same-less, same-total-fits, same-counted, plain-fits, plain-less, plain-code-fits, plain-total-fits, plain-counted}
 use Rattle.pack.proofs.packed_len.Statement.{statement}
 use Rattle.pack.proofs.packed_len.Tie as tie
 
@@ -16,25 +18,25 @@ abbrev μ-loop : tie.MeasureT-loop
 μ-loop row i₀ total₀ i total = length row - i
 
 loop-holds : tie.Need-loop-holds Inv-loop μ-loop
-loop-holds c = search (counting, needs)
+loop-holds c = search (count-starts, needs)
 
 three-at-requires : tie.Need-three-at-requires Inv-loop μ-loop
-three-at-requires c κs = search (counting, needs)
+three-at-requires c κs = omega arith
 
 shared-slice-read-same-at : tie.Need-shared-slice-read-same-at Inv-loop μ-loop
-shared-slice-read-same-at c = search (counting, needs)
+shared-slice-read-same-at c = omega arith
 
 same-at-requires : tie.Need-same-at-requires Inv-loop μ-loop
-same-at-requires c κs = search (counting, needs)
+same-at-requires c κs = search (three-known, needs)
 
 add-i : tie.Need-add-i Inv-loop μ-loop
-add-i c = search (counting, needs)
+add-i c = search (same-fits, needs)
 
 add-total : tie.Need-add-total Inv-loop μ-loop
-add-total c = search (counting, needs)
+add-total c = search (same-total-fits, needs)
 
 loop-less : tie.Need-loop-less Inv-loop μ-loop
-loop-less c = search (counting, needs)
+loop-less c = search (same-less, needs)
 
 loop-again : tie.Need-loop-again Inv-loop μ-loop
 loop-again c =
@@ -43,19 +45,19 @@ loop-again c =
     same-counted _ _ _ (a .three-at .ensures) (a .before .loop-test .taken) _ (c .before .before .if1 .taken) (c .same-at .ensures) _ _ (l .inv .1) (l .inv .2)
 
 plain-at-requires : tie.Need-plain-at-requires Inv-loop μ-loop
-plain-at-requires c κs = search (counting, needs)
+plain-at-requires c κs = omega arith
 
 add-i-2 : tie.Need-add-i-2 Inv-loop μ-loop
-add-i-2 c = search (counting, needs)
+add-i-2 c = search (plain-fits, needs)
 
 add-total-2 : tie.Need-add-total-2 Inv-loop μ-loop
-add-total-2 c = search (counting, needs)
+add-total-2 c = search (plain-code-fits, needs)
 
 add-total-3 : tie.Need-add-total-3 Inv-loop μ-loop
-add-total-3 c = search (counting, needs)
+add-total-3 c = search (plain-total-fits, needs)
 
 loop-less-2 : tie.Need-loop-less-2 Inv-loop μ-loop
-loop-less-2 c = search (counting, needs)
+loop-less-2 c = search (plain-less, needs)
 
 loop-again-2 : tie.Need-loop-again-2 Inv-loop μ-loop
 loop-again-2 c =
@@ -64,7 +66,7 @@ loop-again-2 c =
     plain-counted _ _ _ (a .three-at .ensures) (a .before .loop-test .taken) _ (c .before .if1 .left) (c .plain-at .ensures) _ _ (l .inv .1) (l .inv .2)
 
 returns : tie.Need-returns Inv-loop μ-loop
-returns c = search (counting, needs)
+returns c = search (count-ends, needs)
 
 pub packed-len-spec : {M : Type 1} → statement M
 packed-len-spec =

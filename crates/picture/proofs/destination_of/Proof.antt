@@ -3,9 +3,6 @@ use borrow.Author.Needs.{needs}
 use Rattle.picture.proofs.Laws.{size-laws, destination-none, destination-some}
 use Rattle.picture.proofs.destination_of.Statement.{statement}
 use Rattle.picture.proofs.destination_of.Tie as tie
-use Rattle.picture.proofs.destination_of.Reads as reads
-use Rattle.picture.proofs.destination_of.Lts as lts
-use Rattle.fields.proofs.dest_fields.Reads as dest-fields-reads
 
 pub destination-of-spec : {M : Type 1} → statement M
 destination-of-spec =

@@ -3,9 +3,6 @@ use borrow.Author.Needs.{needs}
 use Rattle.picture.proofs.Laws.{size-laws, grab-none, grab-some}
 use Rattle.picture.proofs.grab_of.Statement.{statement}
 use Rattle.picture.proofs.grab_of.Tie as tie
-use Rattle.picture.proofs.grab_of.Reads as reads
-use Rattle.picture.proofs.grab_of.Lts as lts
-use Rattle.fields.proofs.grab_fields.Reads as grab-fields-reads
 
 pub grab-of-spec : {M : Type 1} → statement M
 grab-of-spec =

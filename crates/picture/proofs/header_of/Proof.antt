@@ -3,9 +3,6 @@ use borrow.Author.Needs.{needs}
 use Rattle.picture.proofs.Laws.{size-laws, header-none, header-some}
 use Rattle.picture.proofs.header_of.Statement.{statement}
 use Rattle.picture.proofs.header_of.Tie as tie
-use Rattle.picture.proofs.header_of.Reads as reads
-use Rattle.picture.proofs.header_of.Lts as lts
-use Rattle.fields.proofs.bitmap_header.Reads as bitmap-header-reads
 
 pub header-of-spec : {M : Type 1} → statement M
 header-of-spec =

@@ -3,9 +3,6 @@ use borrow.Author.Needs.{needs}
 use Rattle.picture.proofs.Laws.{size-laws, long-none, long-some}
 use Rattle.picture.proofs.long_of.Statement.{statement}
 use Rattle.picture.proofs.long_of.Tie as tie
-use Rattle.picture.proofs.long_of.Reads as reads
-use Rattle.picture.proofs.long_of.Lts as lts
-use Rattle.fields.proofs.long_at.Reads as long-at-reads
 
 pub long-of-spec : {M : Type 1} → statement M
 long-of-spec =

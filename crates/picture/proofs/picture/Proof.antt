@@ -3,13 +3,9 @@ use borrow.Author.Needs.{needs}
 use Rattle.picture.proofs.Laws.{seen-judged, picture-seen, picture-unseen}
 use Rattle.picture.proofs.picture.Statement.{statement}
 use Rattle.picture.proofs.picture.Tie as tie
-use Rattle.picture.proofs.picture.Reads as reads
-use Rattle.picture.proofs.picture.Lts as lts
-use Rattle.picture.proofs.picture_from.Reads as picture-from-reads
-use Rattle.view.proofs.view_picture.Reads as view-picture-reads
 
 view-picture-requires : tie.Need-view-picture-requires
-view-picture-requires c κs = search needs
+view-picture-requires c κs = tt
 
 enum-known-v : tie.Need-enum-known-v
 enum-known-v c = search needs

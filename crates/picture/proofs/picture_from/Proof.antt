@@ -3,13 +3,6 @@ use borrow.Author.Needs.{needs}
 use Rattle.picture.proofs.Laws.{bmhd-right, grab-right, dest-right, sprt-right, camg-right, picture-told}
 use Rattle.picture.proofs.picture_from.Statement.{statement}
 use Rattle.picture.proofs.picture_from.Tie as tie
-use Rattle.picture.proofs.picture_from.Reads as reads
-use Rattle.picture.proofs.picture_from.Lts as lts
-use Rattle.picture.proofs.destination_of.Reads as destination-of-reads
-use Rattle.picture.proofs.grab_of.Reads as grab-of-reads
-use Rattle.picture.proofs.header_of.Reads as header-of-reads
-use Rattle.picture.proofs.long_of.Reads as long-of-reads
-use Rattle.picture.proofs.word_of.Reads as word-of-reads
 
 header-of-requires : tie.Need-header-of-requires
 header-of-requires c κs = search (bmhd-right, needs)

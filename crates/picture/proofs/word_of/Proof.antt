@@ -3,9 +3,6 @@ use borrow.Author.Needs.{needs}
 use Rattle.picture.proofs.Laws.{size-laws, word-none, word-some}
 use Rattle.picture.proofs.word_of.Statement.{statement}
 use Rattle.picture.proofs.word_of.Tie as tie
-use Rattle.picture.proofs.word_of.Reads as reads
-use Rattle.picture.proofs.word_of.Lts as lts
-use Rattle.fields.proofs.word_at.Reads as word-at-reads
 
 pub word-of-spec : {M : Type 1} → statement M
 word-of-spec =

@@ -3,16 +3,12 @@ use borrow.Author.Needs.{needs}
 use Rattle.answers.proofs.Properties.{destination-of}
 use Rattle.property_calls.proofs.ilbm_dest.Statement.{statement}
 use Rattle.property_calls.proofs.ilbm_dest.Tie as tie
-use Rattle.property_calls.proofs.ilbm_dest.Reads as reads
-use Rattle.property_calls.proofs.ilbm_dest.Lts as lts
-use Rattle.answers.proofs.destination_told.Reads as destination-told-reads
-use Rattle.picture.proofs.picture.Reads as picture-reads
 
 picture-requires : tie.Need-picture-requires
-picture-requires c κs = search needs
+picture-requires c κs = tt
 
 destination-told-requires : tie.Need-destination-told-requires
-destination-told-requires c κs = search needs
+destination-told-requires c κs = tt
 
 returns : tie.Need-returns
 returns c = search (destination-of, needs)

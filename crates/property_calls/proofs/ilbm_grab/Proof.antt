@@ -3,16 +3,12 @@ use borrow.Author.Needs.{needs}
 use Rattle.answers.proofs.Properties.{grab-of}
 use Rattle.property_calls.proofs.ilbm_grab.Statement.{statement}
 use Rattle.property_calls.proofs.ilbm_grab.Tie as tie
-use Rattle.property_calls.proofs.ilbm_grab.Reads as reads
-use Rattle.property_calls.proofs.ilbm_grab.Lts as lts
-use Rattle.answers.proofs.grab_told.Reads as grab-told-reads
-use Rattle.picture.proofs.picture.Reads as picture-reads
 
 picture-requires : tie.Need-picture-requires
-picture-requires c κs = search needs
+picture-requires c κs = tt
 
 grab-told-requires : tie.Need-grab-told-requires
-grab-told-requires c κs = search needs
+grab-told-requires c κs = tt
 
 returns : tie.Need-returns
 returns c = search (grab-of, needs)

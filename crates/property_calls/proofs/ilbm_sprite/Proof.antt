@@ -3,16 +3,12 @@ use borrow.Author.Needs.{needs}
 use Rattle.answers.proofs.Properties.{sprite-of}
 use Rattle.property_calls.proofs.ilbm_sprite.Statement.{statement}
 use Rattle.property_calls.proofs.ilbm_sprite.Tie as tie
-use Rattle.property_calls.proofs.ilbm_sprite.Reads as reads
-use Rattle.property_calls.proofs.ilbm_sprite.Lts as lts
-use Rattle.answers.proofs.sprite_told.Reads as sprite-told-reads
-use Rattle.picture.proofs.picture.Reads as picture-reads
 
 picture-requires : tie.Need-picture-requires
-picture-requires c κs = search needs
+picture-requires c κs = tt
 
 sprite-told-requires : tie.Need-sprite-told-requires
-sprite-told-requires c κs = search needs
+sprite-told-requires c κs = tt
 
 returns : tie.Need-returns
 returns c = search (sprite-of, needs)

@@ -3,16 +3,12 @@ use borrow.Author.Needs.{needs}
 use Rattle.answers.proofs.Properties.{view-mode-of}
 use Rattle.property_calls.proofs.ilbm_view_mode.Statement.{statement}
 use Rattle.property_calls.proofs.ilbm_view_mode.Tie as tie
-use Rattle.property_calls.proofs.ilbm_view_mode.Reads as reads
-use Rattle.property_calls.proofs.ilbm_view_mode.Lts as lts
-use Rattle.answers.proofs.view_mode_told.Reads as view-mode-told-reads
-use Rattle.picture.proofs.picture.Reads as picture-reads
 
 picture-requires : tie.Need-picture-requires
-picture-requires c κs = search needs
+picture-requires c κs = tt
 
 view-mode-told-requires : tie.Need-view-mode-told-requires
-view-mode-told-requires c κs = search needs
+view-mode-told-requires c κs = tt
 
 returns : tie.Need-returns
 returns c = search (view-mode-of, needs)

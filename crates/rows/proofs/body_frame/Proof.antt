@@ -6,11 +6,6 @@ use borrow.Author.Needs.{needs}
 use Rattle.rows.proofs.Laws.{body-order, body-inside, frame-28, frame-left, frame-fault, planes-8, pixels-fit}
 use Rattle.rows.proofs.body_frame.Statement.{statement}
 use Rattle.rows.proofs.body_frame.Tie as tie
-use Rattle.rows.proofs.body_frame.Reads as reads
-use Rattle.rows.proofs.body_frame.Lts as lts
-use Rattle.picture.proofs.header_of.Reads as header-of-reads
-use Rattle.rows.proofs.left_over.Reads as left-over-reads
-use Rattle.scan.proofs.scan_frame.Reads as scan-frame-reads
 
 header-of-requires : tie.Need-header-of-requires
 header-of-requires c κs = search (bmhd-right, needs)

@@ -6,10 +6,6 @@ use borrow.Author.Needs.{needs}
 use Rattle.rows.proofs.Laws.{body-order, body-inside, line-29, line-28, line-next, line-fault, planes-8}
 use Rattle.rows.proofs.body_line.Statement.{statement}
 use Rattle.rows.proofs.body_line.Tie as tie
-use Rattle.rows.proofs.body_line.Reads as reads
-use Rattle.rows.proofs.body_line.Lts as lts
-use Rattle.picture.proofs.header_of.Reads as header-of-reads
-use Rattle.scan.proofs.scan_row.Reads as scan-row-reads
 
 sub-if1 : tie.Need-sub-if1
 sub-if1 c = search (body-order, needs)

@@ -3,7 +3,7 @@ use Prim.Native.Nat.{ℕ}
 use native.Mathlib.Omega.{arith}
 use lib.ListN.{length-replicate}
 use borrow.Author.Needs.{needs}
-use Rattle.scan.proofs.Lines.{line-rows, rows-room}
+use Rattle.plane_rows.proofs.Lines.{line-rows, rows-room}
 use Rattle.scan.proofs.scan_row.Statement.{statement}
 use Rattle.scan.proofs.scan_row.Tie as tie
 
@@ -24,16 +24,16 @@ scan-row-in-requires-2 c κs =
     (search needs, (rows-room _ (s .w) 8192 _ (line-rows (s .planes) (s .masked) (search needs)) (omega arith) (length-replicate {A = ℕ} 73728 0), search needs))
 
 same-length : tie.Need-same-length
-same-length c = search needs
+same-length c = c .before .before .before .scan-row-in .kept .1 .1 .1 .1 .1 .1 .1 .0
 
 returns : tie.Need-returns
-returns c = search needs
+returns c = c .before .before .before .scan-row-in .ensures
 
 same-length-2 : tie.Need-same-length-2
-same-length-2 c = search needs
+same-length-2 c = c .before .before .before .scan-row-in2 .kept .1 .1 .1 .1 .1 .1 .1 .0
 
 returns-2 : tie.Need-returns-2
-returns-2 c = search needs
+returns-2 c = c .before .before .before .scan-row-in2 .ensures
 
 pub scan-row-spec : {M : Type 1} → statement M
 scan-row-spec =

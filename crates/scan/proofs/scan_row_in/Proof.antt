@@ -1,33 +1,34 @@
 -- `scan_row_in` meets its contract: a line whose rows were judged sound may be written, and a fault leaves the row.
+use native.Mathlib.Omega.{arith}
 use borrow.Author.Needs.{needs}
-use Rattle.scan.proofs.Lines.{lines, count-room, line-read, line-fault}
+use Rattle.plane_rows.proofs.Lines.{lines, count-room, line-read, line-fault}
 use Rattle.scan.proofs.scan_row_in.Statement.{statement}
 use Rattle.scan.proofs.scan_row_in.Tie as tie
 
 row-length-requires : tie.Need-row-length-requires
-row-length-requires c κs = search (lines, needs)
+row-length-requires c κs = omega arith
 
 row-count-requires : tie.Need-row-count-requires
-row-count-requires c κs = search (lines, needs)
+row-count-requires c κs = omega arith
 
 judge-rows-requires : tie.Need-judge-rows-requires
-judge-rows-requires c κs = search (lines, needs)
+judge-rows-requires c κs = tt
 
 enum-known-judged : tie.Need-enum-known-judged
-enum-known-judged c = search (lines, needs)
+enum-known-judged c = search needs
 
 write-line-requires : tie.Need-write-line-requires
 write-line-requires c κs =
     (search needs, ((count-room _ _ _ _ (c .before .before .before .before .before .before .row-count .ensures .0) (search needs), search needs), search (lines, needs)))
 
 enum-known-judged-2 : tie.Need-enum-known-judged-2
-enum-known-judged-2 c = search (lines, needs)
+enum-known-judged-2 c = search needs
 
 same-length : tie.Need-same-length
-same-length c = search (lines, needs)
+same-length c = search needs
 
 same-length-2 : tie.Need-same-length-2
-same-length-2 c = search (lines, needs)
+same-length-2 c = search needs
 
 returns : tie.Need-returns
 returns c =

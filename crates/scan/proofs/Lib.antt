@@ -1,4 +1,0 @@
-pub mod Judging
-pub mod Writing
-pub mod Lines
-pub mod Frame
