@@ -2,7 +2,7 @@
 use native.Mathlib.Omega.{arith}
 use borrow.Author.Needs.{needs}
 use Rattle.grammar.specs.Words.{Bytes}
-use Rattle.listfile.proofs.PictureLaws.{accepted-start, accepted-count}
+use Rattle.listfile.proofs.WalkLaws.{accepted-start, accepted-count}
 use Rattle.listfile.proofs.list.Statement.{statement}
 use Rattle.listfile.proofs.list.Tie as tie
 

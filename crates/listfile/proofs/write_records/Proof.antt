@@ -2,7 +2,7 @@
 use Prim.Native.Nat.{_-_, _≤_}
 use borrow.Author.Needs.{needs}
 use Rattle.cursor.specs.Cursors.{Located}
-use Rattle.listfile.proofs.PictureLaws.{picture-laws}
+use Rattle.listfile.proofs.WalkLaws.{walk-laws}
 use Rattle.listfile.proofs.write_records.Statement.{statement}
 use Rattle.listfile.proofs.write_records.Tie as tie
 
@@ -13,25 +13,25 @@ abbrev μ-loop : tie.MeasureT-loop
 μ-loop s chunks cur₀ cur = chunks - cur .number
 
 first-requires : tie.Need-first-requires Inv-loop μ-loop
-first-requires c κs = search (picture-laws, needs)
+first-requires c κs = search (walk-laws, needs)
 
 loop-holds : tie.Need-loop-holds Inv-loop μ-loop
-loop-holds c = search (picture-laws, needs)
+loop-holds c = search (walk-laws, needs)
 
 write-record-requires : tie.Need-write-record-requires Inv-loop μ-loop
-write-record-requires c κs = search (picture-laws, needs)
+write-record-requires c κs = search (walk-laws, needs)
 
 advance-requires : tie.Need-advance-requires Inv-loop μ-loop
-advance-requires c κs = search (picture-laws, needs)
+advance-requires c κs = search (walk-laws, needs)
 
 loop-less : tie.Need-loop-less Inv-loop μ-loop
-loop-less c = search (picture-laws, needs)
+loop-less c = search (walk-laws, needs)
 
 loop-again : tie.Need-loop-again Inv-loop μ-loop
-loop-again c = search (picture-laws, needs)
+loop-again c = search (walk-laws, needs)
 
 returns : tie.Need-returns Inv-loop μ-loop
-returns c = search (picture-laws, needs)
+returns c = search (walk-laws, needs)
 
 pub write-records-spec : {M : Type 1} → statement M
 write-records-spec =

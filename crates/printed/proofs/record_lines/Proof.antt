@@ -1,8 +1,8 @@
 -- `record_lines` meets its contract: the record at the cursor is that of its number.
 use borrow.Author.Needs.{needs}
-use Rattle.listfile.proofs.LineLaws.{line-laws}
-use Rattle.listfile.proofs.record_lines.Statement.{statement}
-use Rattle.listfile.proofs.record_lines.Tie as tie
+use Rattle.printed.proofs.LineLaws.{line-laws}
+use Rattle.printed.proofs.record_lines.Statement.{statement}
+use Rattle.printed.proofs.record_lines.Tie as tie
 
 record-at-requires : tie.Need-record-at-requires
 record-at-requires c κs = search needs

@@ -8,6 +8,11 @@ use native.Mathlib.Numerals.{add-one}
 use lib.ListN.{length, drop}
 use Rattle.chunk.specs.Chunks.{Chunk, before, none, count}
 use Rattle.tree.specs.Judge.{Found, found, refused, readFile}
+use lib.Dec.{eqb}
+use Rattle.name.specs.declared.Kind.{Kind}
+use Rattle.name.specs.declared.Kind.the-variants.{FORM, LIST, CAT, PROP, FILLER, LOCAL}
+use Rattle.name.specs.Name.{both}
+use Rattle.told.specs.Told.{kindNumber}
 use Rattle.listing.specs.declared.Record.{Record}
 use Rattle.listing.specs.declared.Listed.the-variants.{Chunk as Listed-chunk, Refused}
 use Rattle.listing.specs.Records.{recordsOf, pickRecord, recordIn, recordOf, countOf}
@@ -19,7 +24,7 @@ use Rattle.grammar.specs.Words.{Bytes}
 use Rattle.tree.specs.Judge.{checkOf}
 use Rattle.tree.specs.declared.Verdict.{Verdict}
 use Rattle.tree.specs.declared.Verdict.the-variants.{Accepted}
-use Rattle.listfile.specs.Pictures.{oneIf, isPicture, picturesIn, recordsIn, picturesOf}
+use Rattle.printed.specs.Pictures.{oneIf, pictureName, isPicture, picturesIn, recordsIn, picturesOf}
 
 -- The pictures from record m on.
 abbrev pub left : List ℕ → ℕ → ℕ
@@ -65,12 +70,23 @@ pub at-most-one : (b : Bool) (k : ℕ) → k ≡ oneIf b → k ≤ 1
 at-most-one true k e = omega arith
 at-most-one false k e = omega arith
 
+-- a kind that is told as 1 is FORM
+form-told : (k : Kind) (n t : ℕ) → n ≡ kindNumber k → both (eqb n 1) (eqb t 0x494C424D) ≡ pictureName k t
+form-told FORM n t e = rw e
+form-told LIST n t e = rw e
+form-told CAT n t e = rw e
+form-told PROP n t e = rw e
+form-told FILLER n t e = rw e
+form-told LOCAL n t e = rw e
+
+pub counted : (r : Record) (n : ℕ) (b : Bool) → n ≡ kindNumber (r .kind) → both (eqb n 1) (eqb (r .name .code) 0x494C424D) ≡ b → oneIf b ≡ oneIf (isPicture r)
+counted r n b e t = ap oneIf (sym t ∙ form-told (r .kind) n (r .name .code) e)
+
 pub goes-on :
-    (s : List ℕ) (r : Record) (m m′ n k : ℕ) (b : Bool) → Listed-chunk r ≡ recordOf s m → b ≡ isPicture r → k ≡ oneIf b → m′ ≡ m + 1 →
+    (s : List ℕ) (r : Record) (m m′ n k : ℕ) → Listed-chunk r ≡ recordOf s m → k ≡ oneIf (isPicture r) → m′ ≡ m + 1 →
     n + left s m ≡ picturesOf s → n + k + left s m′ ≡ picturesOf s
-goes-on s r m m′ n k b e f g h i =
+goes-on s r m m′ n k e g h i =
     let x : left s m′ ≡ left s (suc m) = ap (left s) (h ∙ add-one m) in
-    let y : k ≡ oneIf (isPicture r) = g ∙ ap oneIf f in
     omega (arith, one-less s m r e)
 
 -- none is left behind the last record

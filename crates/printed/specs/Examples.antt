@@ -9,8 +9,8 @@ use Rattle.tree.specs.Judge.{readFile, chunkAt, run}
 use Rattle.listing.specs.Records.{recordsFrom}
 use Rattle.text.specs.Text.{decimalUpTo, numberLine, kindLine, nameLine}
 use Rattle.text.specs.Examples.{head-bytes, record-bytes}
-use Rattle.listfile.specs.Pictures.{picturesIn}
-use Rattle.listfile.specs.Lines.{linesOf, printed}
+use Rattle.printed.specs.Pictures.{picturesIn}
+use Rattle.printed.specs.Lines.{linesOf, printed}
 
 pub form-printed : printed (70 ∷ 79 ∷ 82 ∷ 77 ∷ 0 ∷ 0 ∷ 0 ∷ 4 ∷ 73 ∷ 76 ∷ 66 ∷ 77 ∷ []) ≡ head-bytes ++ record-bytes
 unfolding readFile chunkAt run headerOf groupHeaderOf word bytes count wellFormed versionName typeName typeBytes reservedName kindOf recordsFrom picturesIn linesOf decimalUpTo numberLine kindLine nameLine

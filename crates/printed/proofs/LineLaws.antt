@@ -9,8 +9,8 @@ use Rattle.listing.specs.declared.Record.{Record}
 use Rattle.listing.specs.declared.Listed.the-variants.{Chunk as Listed-chunk}
 use Rattle.listing.specs.Records.{recordOf}
 use Rattle.text.specs.Text.{headText, refusalText}
-use Rattle.listfile.specs.Pictures.{picturesOf}
-use Rattle.listfile.specs.Lines.{verdictLines, answerLines, recordLines, listedLines}
+use Rattle.printed.specs.Pictures.{picturesOf}
+use Rattle.printed.specs.Lines.{verdictLines, answerLines, recordLines, listedLines}
 
 module _ (s t : List ℕ) (v : Verdict) (d : v ≡ checkOf s) where
   pub accepted-lines : (n a b k : ℕ) → v ≡ Accepted n a b → k ≡ picturesOf s → t ≡ headText n a b k → t ≡ answerLines s

@@ -9,7 +9,7 @@ use Rattle.listing.specs.declared.Record.{Record}
 use Rattle.listing.specs.declared.Listed.{Listed}
 use Rattle.listing.specs.declared.Listed.the-variants.{Chunk, Refused}
 use Rattle.text.specs.Text.{recordText, refusalText, headText}
-use Rattle.listfile.specs.Pictures.{picturesOf, recordsIn}
+use Rattle.printed.specs.Pictures.{picturesOf, recordsIn}
 
 -- the lines that stand first: "A refusal prints the first two lines only."
 abbrev pub verdictLines : List ℕ → Verdict → List ℕ

@@ -2,10 +2,10 @@
 use native.Mathlib.Omega.{arith}
 use borrow.Author.Needs.{needs}
 use Rattle.grammar.specs.Words.{Bytes}
-use Rattle.listfile.proofs.PictureLaws.{accepted-start, accepted-count}
-use Rattle.listfile.proofs.LineLaws.{line-laws}
-use Rattle.listfile.proofs.answer_lines.Statement.{statement}
-use Rattle.listfile.proofs.answer_lines.Tie as tie
+use Rattle.printed.proofs.PictureLaws.{accepted-start, accepted-count}
+use Rattle.printed.proofs.LineLaws.{line-laws}
+use Rattle.printed.proofs.answer_lines.Statement.{statement}
+use Rattle.printed.proofs.answer_lines.Tie as tie
 
 enum-known-v : tie.Need-enum-known-v
 enum-known-v c = search needs

@@ -1,0 +1,2 @@
+pub mod PictureLaws
+pub mod LineLaws
