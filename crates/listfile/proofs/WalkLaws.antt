@@ -1,12 +1,12 @@
--- A walk over an accepted file starts at its outermost chunk, and the check has counted the records that it comes to.
+-- A walk over an accepted file starts at its outermost chunk.
 use Prim.Native.Nat.{ℕ, _≤_}
 use mathlib.Core.Path.{_≡_, sym, _∙_}
 use mathlib.Core.List.{List}
 use native.Mathlib.Omega.{arith}
-use Rattle.grammar.specs.Words.{Bytes}
-use Rattle.tree.specs.Judge.{checkOf}
 use Rattle.tree.specs.declared.Verdict.{Verdict}
 use Rattle.tree.specs.declared.Verdict.the-variants.{Accepted}
+use Rattle.tree.specs.Judge.{checkOf}
+use Rattle.grammar.specs.Words.{Bytes}
 use Rattle.listing.specs.Records.{countOf}
 use Rattle.cursor.specs.declared.Cursor.{Cursor}
 use Rattle.cursor.specs.Cursors.{firstCursor, Located}

@@ -1,60 +1,15 @@
 // Lists the chunks of the file at standard input.
-use count::Counted;
 use cursor::Cursor;
-use listing::Record;
 use tree::Verdict;
 ghost use mathlib.Core.Path.{_≡_};
 ghost use Prim.Native.Nat.{_≤_, _<_};
-ghost use lib.ListN.{length, take};
+ghost use lib.ListN.{length};
 ghost use Rattle.tree.specs.Judge.{checkOf};
-ghost use Rattle.listing.specs.Records.{recordOf, countOf};
+ghost use Rattle.listing.specs.Records.{countOf};
 ghost use Rattle.cursor.specs.Cursors.{firstCursor, Located};
-ghost use Rattle.listfile.specs.Lines.{picturesOf, answerLines, listedLines};
 
 // The longest file that is listed.
 const MOST: usize = 65536;
-
-// How many pictures a file has, 0 if it is refused.
-fn pictures(s: &[u8]) -> usize
-    ensures { λ r. ⌜ r ≡ picturesOf (now (s .entry)) ⌝ }
-{
-    let c = count::count_pictures(s);
-    match c {
-        Counted::Pictures(n) => n,
-        Counted::Refused {
-            number: _,
-            place: _,
-        } => 0,
-    }
-}
-
-// Puts the lines that stand first: the refusal of a file, or what the check tells of it.
-fn answer_lines(out: &mut [u8], s: &[u8], v: Verdict) -> usize
-    requires { ⌜ (200 ≤ length (now out)) × (v ≡ checkOf (now s)) ⌝ }
-    ensures { λ n. ⌜ take n (now (out .exit)) ≡ answerLines (now (s .entry)) ⌝ }
-    ensures { λ n. ⌜ n ≤ 200 ⌝ }
-{
-    match v {
-        Verdict::Accepted {
-            chunks,
-            end,
-            trailing,
-        } => text::put_head(out, chunks, end, trailing, pictures(s)),
-        Verdict::Refused { number, place } => text::put_refusal(out, number, place),
-    }
-}
-
-// Puts the six lines of the record at the cursor.
-fn record_lines(out: &mut [u8], s: &[u8], cur: Cursor) -> usize
-    requires { ⌜ (200 ≤ length (now out)) × (Located (now s) cur) × (cur .number < countOf (now s)) ⌝ }
-    ensures { λ n. ⌜ take n (now (out .exit)) ≡ listedLines (recordOf (now (s .entry)) (cur .number)) ⌝ }
-    ensures { λ n. ⌜ n ≤ 200 ⌝ }
-{
-    let r = cursor::record_at(s, cur);
-    let kind = r.kind;
-    let name = r.name;
-    text::put_record(out, r.number, r.level, kind, name, r.place, r.size)
-}
 
 // Writes the first n bytes of a text.
 fn write_text(out: &[u8], n: usize)
@@ -67,7 +22,7 @@ fn write_answer(s: &[u8], v: Verdict)
     requires { ⌜ v ≡ checkOf (now s) ⌝ }
 {
     let mut out = [0u8; 200];
-    let n = answer_lines(&mut out, s, v);
+    let n = printed::answer_lines(&mut out, s, v);
     write_text(&out, n);
 }
 
@@ -75,7 +30,7 @@ fn write_record(s: &[u8], cur: Cursor)
     requires { ⌜ (Located (now s) cur) × (cur .number < countOf (now s)) ⌝ }
 {
     let mut out = [0u8; 200];
-    let n = record_lines(&mut out, s, cur);
+    let n = printed::record_lines(&mut out, s, cur);
     write_text(&out, n);
 }
 
@@ -107,7 +62,7 @@ fn list(s: &[u8]) {
 // Writes the refusal of a file that is longer than the longest.
 fn write_too_long() {
     let mut out = [0u8; 200];
-    let n = text::put_refusal(&mut out, 40, 0);
+    let n = lines::put_refusal(&mut out, 40, 0);
     write_text(&out, n);
 }
 

@@ -1,149 +1,39 @@
--- `put_kind` meets its contract, by the kind.
+-- `put_kind` meets its contract: the letters of the kind's word are its text.
+use Prim.Native.Nat.{_+_}
+use mathlib.Core.Path.{_≡_}
+use native.Mathlib.Omega.{arith}
 use borrow.Author.Needs.{needs}
-use Rattle.name.specs.declared.Kind.the-variants.{FORM, LIST, CAT, PROP, FILLER, LOCAL}
-use Rattle.text.proofs.Texts.{kind-put}
+use Rattle.text.specs.Words.{lettersUpTo}
+use Rattle.text.proofs.Texts.{few-letters, kind-put}
 use Rattle.text.proofs.put_kind.Statement.{statement}
 use Rattle.text.proofs.put_kind.Tie as tie
 
-enum-told : tie.Need-enum-told
-enum-told c = search needs
+put-word-requires : tie.Need-put-word-requires
+unfolding lettersUpTo
+put-word-requires c κs = omega arith
 
-slice-aggregate-put : tie.Need-slice-aggregate-put
-slice-aggregate-put c = search needs
+kind-word-requires : tie.Need-kind-word-requires
+kind-word-requires c κs = tt
 
-put-requires : tie.Need-put-requires
-put-requires c κs = search needs
-
-enum-told-2 : tie.Need-enum-told-2
-enum-told-2 c = search needs
-
-slice-aggregate-put-2 : tie.Need-slice-aggregate-put-2
-slice-aggregate-put-2 c = search needs
-
-put-requires-2 : tie.Need-put-requires-2
-put-requires-2 c κs = search needs
-
-enum-told-3 : tie.Need-enum-told-3
-enum-told-3 c = search needs
-
-slice-aggregate-put-3 : tie.Need-slice-aggregate-put-3
-slice-aggregate-put-3 c = search needs
-
-put-requires-3 : tie.Need-put-requires-3
-put-requires-3 c κs = search needs
-
-enum-told-4 : tie.Need-enum-told-4
-enum-told-4 c = search needs
-
-slice-aggregate-put-4 : tie.Need-slice-aggregate-put-4
-slice-aggregate-put-4 c = search needs
-
-put-requires-4 : tie.Need-put-requires-4
-put-requires-4 c κs = search needs
-
-enum-told-5 : tie.Need-enum-told-5
-enum-told-5 c = search needs
-
-slice-aggregate-put-5 : tie.Need-slice-aggregate-put-5
-slice-aggregate-put-5 c = search needs
-
-put-requires-5 : tie.Need-put-requires-5
-put-requires-5 c κs = search needs
-
-enum-told-6 : tie.Need-enum-told-6
-enum-told-6 c = search needs
-
-slice-aggregate-put-6 : tie.Need-slice-aggregate-put-6
-slice-aggregate-put-6 c = search needs
-
-put-requires-6 : tie.Need-put-requires-6
-put-requires-6 c κs = search needs
+put-word-requires-2 : tie.Need-put-word-requires-2
+unfolding lettersUpTo
+put-word-requires-2 c κs =
+    let g = c .before .before .before .before .before .before .before .args in
+    let p = c .before .before .before .before .put-word in
+    let a : p .result ≡ g .at + 5 = p .ensures .0 in
+    omega (arith, few-letters (c .kind-word .result) (g .kind) (c .kind-word .ensures))
 
 same-length : tie.Need-same-length
 same-length c = search needs
 
 returns : tie.Need-returns
+unfolding lettersUpTo
 returns c =
-    let g = c .before .before .before .before .before .before .before .before .args in
-    let p = c .before .before .put in
-    (kind-put (g .out .now) (p .last .0) (g .at) (p .result) (g .kind) FORM (search needs) (p .ensures), search needs)
-
-same-length-2 : tie.Need-same-length-2
-same-length-2 c = search needs
-
-returns-2 : tie.Need-returns-2
-returns-2 c =
-    let g = c .before .before .before .before .before .before .before .before .args in
-    let p = c .before .before .put2 in
-    (kind-put (g .out .now) (p .last .0) (g .at) (p .result) (g .kind) LIST (search needs) (p .ensures), search needs)
-
-same-length-3 : tie.Need-same-length-3
-same-length-3 c = search needs
-
-returns-3 : tie.Need-returns-3
-returns-3 c =
-    let g = c .before .before .before .before .before .before .before .before .args in
-    let p = c .before .before .put3 in
-    (kind-put (g .out .now) (p .last .0) (g .at) (p .result) (g .kind) CAT (search needs) (p .ensures), search needs)
-
-same-length-4 : tie.Need-same-length-4
-same-length-4 c = search needs
-
-returns-4 : tie.Need-returns-4
-returns-4 c =
-    let g = c .before .before .before .before .before .before .before .before .args in
-    let p = c .before .before .put4 in
-    (kind-put (g .out .now) (p .last .0) (g .at) (p .result) (g .kind) PROP (search needs) (p .ensures), search needs)
-
-same-length-5 : tie.Need-same-length-5
-same-length-5 c = search needs
-
-returns-5 : tie.Need-returns-5
-returns-5 c =
-    let g = c .before .before .before .before .before .before .before .before .args in
-    let p = c .before .before .put5 in
-    (kind-put (g .out .now) (p .last .0) (g .at) (p .result) (g .kind) FILLER (search needs) (p .ensures), search needs)
-
-same-length-6 : tie.Need-same-length-6
-same-length-6 c = search needs
-
-returns-6 : tie.Need-returns-6
-returns-6 c =
-    let g = c .before .before .before .before .before .before .before .before .args in
-    let p = c .before .before .put6 in
-    (kind-put (g .out .now) (p .last .0) (g .at) (p .result) (g .kind) LOCAL (search needs) (p .ensures), search needs)
+    let g = c .before .before .before .before .before .before .before .before .before .before .args in
+    let p = c .before .before .before .before .before .before .before .put-word in
+    let w = c .before .before .before .kind-word in
+    let q = c .before .before .put-word2 in
+    kind-put (w .result) (g .kind) (w .ensures) (g .out .now) (p .last .0) (q .last .0) (g .at) (p .result) (q .result) (p .ensures) (q .ensures)
 
 pub put-kind-spec : {M : Type 1} → statement M
-put-kind-spec =
-    tie.close
-    (tie.spec
-    enum-told
-    slice-aggregate-put
-    put-requires
-    enum-told-2
-    slice-aggregate-put-2
-    put-requires-2
-    enum-told-3
-    slice-aggregate-put-3
-    put-requires-3
-    enum-told-4
-    slice-aggregate-put-4
-    put-requires-4
-    enum-told-5
-    slice-aggregate-put-5
-    put-requires-5
-    enum-told-6
-    slice-aggregate-put-6
-    put-requires-6
-    same-length
-    returns
-    same-length-2
-    returns-2
-    same-length-3
-    returns-3
-    same-length-4
-    returns-4
-    same-length-5
-    returns-5
-    same-length-6
-    returns-6)
+put-kind-spec = tie.close (tie.spec put-word-requires kind-word-requires put-word-requires-2 same-length returns)

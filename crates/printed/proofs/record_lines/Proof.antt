@@ -1,0 +1,20 @@
+-- `record_lines` meets its contract: the record at the cursor is that of its number.
+use borrow.Author.Needs.{needs}
+use Rattle.printed.proofs.LineLaws.{line-laws}
+use Rattle.printed.proofs.record_lines.Statement.{statement}
+use Rattle.printed.proofs.record_lines.Tie as tie
+
+record-at-requires : tie.Need-record-at-requires
+record-at-requires c κs = search needs
+
+put-record-requires : tie.Need-put-record-requires
+put-record-requires c κs = search needs
+
+same-length : tie.Need-same-length
+same-length c = search needs
+
+returns : tie.Need-returns
+returns c = search (line-laws, needs)
+
+pub record-lines-spec : {M : Type 1} → statement M
+record-lines-spec = tie.close (tie.spec record-at-requires put-record-requires same-length returns)

@@ -1,0 +1,25 @@
+-- 01 "Examples": FORM, size 4, ILBM prints these twelve lines; FOR1, size 4, ILBM is refused with 3 at 0.
+use Prim.Native.Nat.{ℕ}
+use mathlib.Core.Path.{_≡_, refl}
+use mathlib.Core.List.{List, [], _∷_, _++_}
+use Rattle.name.specs.Name.{wellFormed, versionName, typeName, typeBytes, reservedName, kindOf}
+use Rattle.chunk.specs.Chunks.{word, bytes, count}
+use Rattle.header.specs.Checks.{headerOf, groupHeaderOf}
+use Rattle.tree.specs.Judge.{readFile, chunkAt, run}
+use Rattle.listing.specs.Records.{recordsFrom, pickRecord}
+use Rattle.ilbm.specs.Contents.{contentsFrom}
+use Rattle.text.specs.Text.{decimalUpTo, numberLine, kindLine, nameLine}
+use Rattle.text.specs.Examples.{head-bytes, record-bytes}
+use Rattle.printed.specs.Lines.{linesFrom, printed}
+
+pub form-printed : printed (70 ∷ 79 ∷ 82 ∷ 77 ∷ 0 ∷ 0 ∷ 0 ∷ 4 ∷ 73 ∷ 76 ∷ 66 ∷ 77 ∷ []) ≡ head-bytes ++ record-bytes
+unfolding readFile chunkAt run headerOf groupHeaderOf word bytes count wellFormed versionName typeName typeBytes reservedName kindOf recordsFrom pickRecord contentsFrom linesFrom decimalUpTo numberLine kindLine nameLine
+form-printed = refl
+
+-- answer=3, place=0
+pub version-printed : printed (70 ∷ 79 ∷ 82 ∷ 49 ∷ 0 ∷ 0 ∷ 0 ∷ 4 ∷ 73 ∷ 76 ∷ 66 ∷ 77 ∷ []) ≡
+    97 ∷ 110 ∷ 115 ∷ 119 ∷ 101 ∷ 114 ∷ 61 ∷ 51 ∷ 10 ∷
+    112 ∷ 108 ∷ 97 ∷ 99 ∷ 101 ∷ 61 ∷ 48 ∷ 10 ∷
+    []
+unfolding readFile chunkAt headerOf word versionName kindOf linesFrom decimalUpTo numberLine
+version-printed = refl
