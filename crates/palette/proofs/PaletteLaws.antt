@@ -17,7 +17,7 @@ use Rattle.content.specs.Held.{HeldIs}
 use Rattle.view.specs.declared.View.{View}
 use Rattle.view.specs.declared.View.the-variants.{Seen, Unseen}
 use Rattle.view.specs.Seen.{ViewIs, Begins, Placed}
-use Rattle.view.proofs.ViewLaws.{held-data, data-taken}
+use Rattle.faults.proofs.FaultLaws.{held-data, data-taken}
 use Rattle.palette.specs.Parts.{PartIn, partOr, partAt, ColoursAre}
 
 -- the part of a property, or the default: its bytes, where it begins, and that it lies inside

@@ -26,8 +26,8 @@ use Rattle.content.specs.Held.{HeldIs, ContentsAre}
 use Rattle.view.specs.declared.View.{View}
 use Rattle.view.specs.declared.View.the-variants.{Seen, Unseen}
 use Rattle.view.specs.Seen.{ViewIs}
-use Rattle.view.proofs.Laws.{held-some, held-none}
-use Rattle.view.proofs.ViewLaws.{held-data, data-taken}
+use Rattle.faults.proofs.Laws.{held-some, held-none}
+use Rattle.faults.proofs.FaultLaws.{held-data, data-taken}
 use Rattle.picture.specs.Told.{OfSize, Judged, HeaderTold, GrabTold, DestinationTold, WordTold, LongTold, PictureTold}
 
 not-false : (b : Bool) → not b ≡ false → b ≡ true

@@ -1,39 +1,15 @@
 -- What is told of a picture by the parts of the file that hold its content.
-use Prim.Native.Nat.{ℕ, _+_, _%_, _≤_}
+use Prim.Native.Nat.{ℕ, _+_}
 use mathlib.Core.Path.{_≡_}
-use mathlib.Core.Bool.{Bool}
 use mathlib.Core.List.{List}
 use Rattle.chunk.specs.Chunks.{Chunks}
-use Rattle.ilbm.specs.Contents.{SharedProp, Property, Content, contentOf}
+use Rattle.ilbm.specs.Contents.{SharedProp, Content, contentOf}
 use Rattle.ilbm.specs.Places.{propertyAt, placeOf}
-use Rattle.ilbm.specs.Pictures.{sizeNot, sizeNotTriples, wrongSize, pictureFault, Viewed, viewed, unseen, judged}
+use Rattle.ilbm.specs.Pictures.{pictureFault, Viewed, viewed, unseen, judged}
 use Rattle.locate.specs.Spots.{Opens, ScopeIs}
-use Rattle.content.specs.declared.Held.{Held}
-use Rattle.content.specs.declared.Contents.{Contents}
-use Rattle.content.specs.Held.{HeldIs, ContentsAre, StartsAre}
+use Rattle.content.specs.Held.{ContentsAre, StartsAre}
 use Rattle.view.specs.declared.View.{View}
 use Rattle.view.specs.declared.View.the-variants.{Seen, Unseen}
-
--- the parts hold some property, some content
-abbrev pub Sized : Held → Type 0
-Sized h = (s : List ℕ) × (q : Property) × HeldIs s h q
-
-abbrev pub Full : List ℕ → Contents → Type 0
-Full s c = (x : Content) × ContentsAre s c x
-
--- b tells whether the property that h holds has another size than n, or no multiple of 3
-pub record SizeTold (h : Held) (n : ℕ) (b : Bool) : Type 0 where
-  pub at : (s : List ℕ) (q : Property) → HeldIs s h q → b ≡ sizeNot n q
-
-pub record TriplesTold (h : Held) (b : Bool) : Type 0 where
-  pub at : (s : List ℕ) (q : Property) → HeldIs s h q → b ≡ sizeNotTriples q
-
-pub record SizesTold (s : List ℕ) (c : Contents) (b : Bool) : Type 0 where
-  pub at : (x : Content) → ContentsAre s c x → b ≡ wrongSize x
-
--- n is the number of the refusal, or 0
-pub record FaultTold (s : List ℕ) (c : Contents) (n : ℕ) : Type 0 where
-  pub at : (x : Content) → ContentsAre s c x → n ≡ pictureFault x
 
 -- the picture that is seen, or the refusal
 abbrev pub ViewIs : List ℕ → View → Viewed → Type 0

@@ -3,9 +3,6 @@ use borrow.Author.Needs.{needs}
 use Rattle.rows.proofs.Laws.{frame-25}
 use Rattle.rows.proofs.picture_frame.Statement.{statement}
 use Rattle.rows.proofs.picture_frame.Tie as tie
-use Rattle.rows.proofs.picture_frame.Reads as reads
-use Rattle.rows.proofs.picture_frame.Lts as lts
-use Rattle.rows.proofs.body_frame.Reads as body-frame-reads
 
 enum-told : tie.Need-enum-told
 enum-told c = search needs

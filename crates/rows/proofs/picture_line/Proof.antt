@@ -3,9 +3,6 @@ use borrow.Author.Needs.{needs}
 use Rattle.rows.proofs.Laws.{line-25}
 use Rattle.rows.proofs.picture_line.Statement.{statement}
 use Rattle.rows.proofs.picture_line.Tie as tie
-use Rattle.rows.proofs.picture_line.Reads as reads
-use Rattle.rows.proofs.picture_line.Lts as lts
-use Rattle.rows.proofs.body_line.Reads as body-line-reads
 
 enum-told : tie.Need-enum-told
 enum-told c = search needs

@@ -3,13 +3,9 @@ use borrow.Author.Needs.{needs}
 use Rattle.rows.proofs.Laws.{seen-judged, line-seen, line-unseen}
 use Rattle.rows.proofs.scan_line.Statement.{statement}
 use Rattle.rows.proofs.scan_line.Tie as tie
-use Rattle.rows.proofs.scan_line.Reads as reads
-use Rattle.rows.proofs.scan_line.Lts as lts
-use Rattle.rows.proofs.picture_line.Reads as picture-line-reads
-use Rattle.view.proofs.view_picture.Reads as view-picture-reads
 
 view-picture-requires : tie.Need-view-picture-requires
-view-picture-requires c κs = search needs
+view-picture-requires c κs = tt
 
 enum-known-v : tie.Need-enum-known-v
 enum-known-v c = search needs

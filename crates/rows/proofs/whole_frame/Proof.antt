@@ -3,13 +3,9 @@ use borrow.Author.Needs.{needs}
 use Rattle.rows.proofs.Laws.{seen-judged, frame-seen, frame-unseen}
 use Rattle.rows.proofs.whole_frame.Statement.{statement}
 use Rattle.rows.proofs.whole_frame.Tie as tie
-use Rattle.rows.proofs.whole_frame.Reads as reads
-use Rattle.rows.proofs.whole_frame.Lts as lts
-use Rattle.rows.proofs.picture_frame.Reads as picture-frame-reads
-use Rattle.view.proofs.view_picture.Reads as view-picture-reads
 
 view-picture-requires : tie.Need-view-picture-requires
-view-picture-requires c κs = search needs
+view-picture-requires c κs = tt
 
 enum-known-v : tie.Need-enum-known-v
 enum-known-v c = search needs

@@ -3,11 +3,6 @@ use Rattle.view.proofs.ViewLaws.{form-row, form-scoped, form-full, form
 use borrow.Author.Needs.{needs}
 use Rattle.view.proofs.view_form.Statement.{statement}
 use Rattle.view.proofs.view_form.Tie as tie
-use Rattle.view.proofs.view_form.Reads as reads
-use Rattle.view.proofs.view_form.Lts as lts
-use Rattle.content.proofs.content_at.Reads as content-at-reads
-use Rattle.chunk.proofs.size_at.Reads as size-at-reads
-use Rattle.view.proofs.fault.Reads as fault-reads
 
 add-end : tie.Need-add-end
 add-end c = search needs

@@ -6,10 +6,6 @@ use Rattle.view.proofs.ViewLaws.{view-refused}
 use borrow.Author.Needs.{needs}
 use Rattle.view.proofs.view_picture.Statement.{statement}
 use Rattle.view.proofs.view_picture.Tie as tie
-use Rattle.view.proofs.view_picture.Reads as reads
-use Rattle.view.proofs.view_picture.Lts as lts
-use Rattle.tree.proofs.check.Reads as check-reads
-use Rattle.view.proofs.view_sound.Reads as view-sound-reads
 
 check-requires : tie.Need-check-requires
 check-requires c κs = search needs

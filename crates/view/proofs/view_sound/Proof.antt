@@ -3,10 +3,6 @@ use Rattle.view.proofs.ViewLaws.{sound-row, no-scope, spot-form, view-h
 use borrow.Author.Needs.{needs}
 use Rattle.view.proofs.view_sound.Statement.{statement}
 use Rattle.view.proofs.view_sound.Tie as tie
-use Rattle.view.proofs.view_sound.Reads as reads
-use Rattle.view.proofs.view_sound.Lts as lts
-use Rattle.locate.proofs.seek.Reads as seek-reads
-use Rattle.view.proofs.view_form.Reads as view-form-reads
 
 seek-requires : tie.Need-seek-requires
 seek-requires c κs = search (sound-row, no-scope, needs)

@@ -3,9 +3,9 @@
 use native.Mathlib.Omega.{arith}
 use Rattle.picture.proofs.Laws.{bmhd-right}
 use borrow.Author.Needs.{needs}
-use Rattle.rows.proofs.Laws.{body-order, body-inside, line-29, line-28, line-next, line-fault, planes-8}
-use Rattle.rows.proofs.body_line.Statement.{statement}
-use Rattle.rows.proofs.body_line.Tie as tie
+use Rattle.body_rows.proofs.Laws.{body-order, body-inside, line-29, line-28, line-next, line-fault, planes-8}
+use Rattle.body_rows.proofs.body_line.Statement.{statement}
+use Rattle.body_rows.proofs.body_line.Tie as tie
 
 sub-if1 : tie.Need-sub-if1
 sub-if1 c = search (body-order, needs)
@@ -17,13 +17,13 @@ header-of-requires : tie.Need-header-of-requires
 header-of-requires c κs = search (bmhd-right, needs)
 
 cast-w : tie.Need-cast-w
-cast-w c = search needs
+cast-w c = omega arith
 
 returns-2 : tie.Need-returns-2
 returns-2 c = search (line-28, needs)
 
 cast-planes : tie.Need-cast-planes
-cast-planes c = search needs
+cast-planes c = omega arith
 
 sub-scan-row : tie.Need-sub-scan-row
 sub-scan-row c = search (body-order, needs)

@@ -1,12 +1,8 @@
 -- The six tests are those of the definition, each on its own property.
 use borrow.Author.Needs.{needs}
-use Rattle.view.proofs.Laws.{sized-bmhd, sized-cmap, sized-grab, sized-dest, sized-sprt, sized-camg, wrong-bmhd, wrong-cmap, wrong-grab, wrong-dest, wrong-sprt, wrong-camg}
-use Rattle.view.proofs.wrong_size.Statement.{statement}
-use Rattle.view.proofs.wrong_size.Tie as tie
-use Rattle.view.proofs.wrong_size.Reads as reads
-use Rattle.view.proofs.wrong_size.Lts as lts
-use Rattle.view.proofs.not_triples.Reads as not-triples-reads
-use Rattle.view.proofs.size_not.Reads as size-not-reads
+use Rattle.faults.proofs.Laws.{sized-bmhd, sized-cmap, sized-grab, sized-dest, sized-sprt, sized-camg, wrong-bmhd, wrong-cmap, wrong-grab, wrong-dest, wrong-sprt, wrong-camg}
+use Rattle.faults.proofs.wrong_size.Statement.{statement}
+use Rattle.faults.proofs.wrong_size.Tie as tie
 
 size-not-requires : tie.Need-size-not-requires
 size-not-requires c κs = search (sized-bmhd, needs)

@@ -1,13 +1,8 @@
 -- 22 and 23 come first, so that BMHD has its 20 bytes when its fields are read for 24.
-use Rattle.view.proofs.ViewLaws.{fault-22, fault-23, fault-24, part-order, part-inside, header-room}
+use Rattle.faults.proofs.FaultLaws.{fault-22, fault-23, fault-24, part-order, part-inside, header-room}
 use borrow.Author.Needs.{needs}
-use Rattle.view.proofs.sized_fault.Statement.{statement}
-use Rattle.view.proofs.sized_fault.Tie as tie
-use Rattle.view.proofs.sized_fault.Reads as reads
-use Rattle.view.proofs.sized_fault.Lts as lts
-use Rattle.fields.proofs.bitmap_header.Reads as bitmap-header-reads
-use Rattle.view.proofs.header_fault.Reads as header-fault-reads
-use Rattle.view.proofs.wrong_size.Reads as wrong-size-reads
+use Rattle.faults.proofs.sized_fault.Statement.{statement}
+use Rattle.faults.proofs.sized_fault.Tie as tie
 
 returns : tie.Need-returns
 returns c = search (fault-22, needs)

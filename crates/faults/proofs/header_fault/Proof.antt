@@ -1,10 +1,8 @@
 -- The tests are those of the definition, in its order; w, h and planes of 0 count only beside a BODY.
 use borrow.Author.Needs.{needs}
-use Rattle.view.proofs.Laws.{many-planes, odd-masking, odd-compression, no-width, no-height, no-planes, shown, no-body}
-use Rattle.view.proofs.header_fault.Statement.{statement}
-use Rattle.view.proofs.header_fault.Tie as tie
-use Rattle.view.proofs.header_fault.Reads as reads
-use Rattle.view.proofs.header_fault.Lts as lts
+use Rattle.faults.proofs.Laws.{many-planes, odd-masking, odd-compression, no-width, no-height, no-planes, shown, no-body}
+use Rattle.faults.proofs.header_fault.Statement.{statement}
+use Rattle.faults.proofs.header_fault.Tie as tie
 
 returns : tie.Need-returns
 returns c = search (many-planes, needs)

@@ -1,11 +1,8 @@
 -- Without a BMHD it is 21; with one, `sized_fault` goes on from 22.
-use Rattle.view.proofs.ViewLaws.{fault-21}
+use Rattle.faults.proofs.FaultLaws.{fault-21}
 use borrow.Author.Needs.{needs}
-use Rattle.view.proofs.fault.Statement.{statement}
-use Rattle.view.proofs.fault.Tie as tie
-use Rattle.view.proofs.fault.Reads as reads
-use Rattle.view.proofs.fault.Lts as lts
-use Rattle.view.proofs.sized_fault.Reads as sized-fault-reads
+use Rattle.faults.proofs.fault.Statement.{statement}
+use Rattle.faults.proofs.fault.Tie as tie
 
 enum-told : tie.Need-enum-told
 enum-told c = search needs

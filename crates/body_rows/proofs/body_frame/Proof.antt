@@ -3,18 +3,18 @@
 use native.Mathlib.Omega.{arith}
 use Rattle.picture.proofs.Laws.{bmhd-right}
 use borrow.Author.Needs.{needs}
-use Rattle.rows.proofs.Laws.{body-order, body-inside, frame-28, frame-left, frame-fault, planes-8, pixels-fit}
-use Rattle.rows.proofs.body_frame.Statement.{statement}
-use Rattle.rows.proofs.body_frame.Tie as tie
+use Rattle.body_rows.proofs.Laws.{body-order, body-inside, frame-28, frame-left, frame-fault, planes-8, pixels-fit}
+use Rattle.body_rows.proofs.body_frame.Statement.{statement}
+use Rattle.body_rows.proofs.body_frame.Tie as tie
 
 header-of-requires : tie.Need-header-of-requires
 header-of-requires c κs = search (bmhd-right, needs)
 
 cast-w : tie.Need-cast-w
-cast-w c = search needs
+cast-w c = omega arith
 
 cast-h : tie.Need-cast-h
-cast-h c = search needs
+cast-h c = omega arith
 
 mul-if1 : tie.Need-mul-if1
 mul-if1 c = pixels-fit _ _ (c .struct-known2 .given .0) (c .struct-known2 .given .1 .0)
@@ -23,7 +23,7 @@ returns : tie.Need-returns
 returns c = search (frame-28, needs)
 
 cast-planes : tie.Need-cast-planes
-cast-planes c = search needs
+cast-planes c = omega arith
 
 sub-scan-frame : tie.Need-sub-scan-frame
 sub-scan-frame c = search (body-order, needs)
@@ -45,7 +45,7 @@ sub-left-over : tie.Need-sub-left-over
 sub-left-over c = search (body-order, needs)
 
 left-over-requires : tie.Need-left-over-requires
-left-over-requires c κs = search needs
+left-over-requires c κs = tt
 
 enum-known-scanned-2 : tie.Need-enum-known-scanned-2
 enum-known-scanned-2 c = search needs

@@ -18,7 +18,7 @@ use Rattle.members.specs.Members.{Shows}
 use Rattle.content.specs.declared.Held.{Held}
 use Rattle.content.specs.declared.Contents.{Contents}
 use Rattle.content.specs.Held.{HeldIs, ContentsAre}
-use Rattle.view.specs.Seen.{Sized, Full, SizeTold, TriplesTold, SizesTold}
+use Rattle.faults.specs.Faults.{Sized, Full, SizeTold, TriplesTold, SizesTold}
 
 never : {A : Type 0} (a b : ℕ) → Between a b ≡ Nothing → A
 never a b e = absurd (let z : _≡_ {A = ℕ} 0 1 = cc in omega arith)

@@ -1,10 +1,8 @@
 -- An absent CMAP has no wrong size; else the part ends where it begins or behind it, and its length is tested.
-use Rattle.view.proofs.Laws.{sized-order, triples-none, triples-some}
+use Rattle.faults.proofs.Laws.{sized-order, triples-none, triples-some}
 use borrow.Author.Needs.{needs}
-use Rattle.view.proofs.not_triples.Statement.{statement}
-use Rattle.view.proofs.not_triples.Tie as tie
-use Rattle.view.proofs.not_triples.Reads as reads
-use Rattle.view.proofs.not_triples.Lts as lts
+use Rattle.faults.proofs.not_triples.Statement.{statement}
+use Rattle.faults.proofs.not_triples.Tie as tie
 
 enum-told : tie.Need-enum-told
 enum-told c = search needs

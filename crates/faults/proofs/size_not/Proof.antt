@@ -1,10 +1,8 @@
 -- An absent property has no wrong size; else the part ends where it begins or behind it, and its length is compared.
-use Rattle.view.proofs.Laws.{sized-order, size-none, size-some}
+use Rattle.faults.proofs.Laws.{sized-order, size-none, size-some}
 use borrow.Author.Needs.{needs}
-use Rattle.view.proofs.size_not.Statement.{statement}
-use Rattle.view.proofs.size_not.Tie as tie
-use Rattle.view.proofs.size_not.Reads as reads
-use Rattle.view.proofs.size_not.Lts as lts
+use Rattle.faults.proofs.size_not.Statement.{statement}
+use Rattle.faults.proofs.size_not.Tie as tie
 
 enum-told : tie.Need-enum-told
 enum-told c = search needs
