@@ -23,12 +23,12 @@ module _ (levels : ℕ) (s : List ℕ) (from : ℕ) (k : Kind) (z p : ℕ) where
   unfolding groupHeaderOf
   refuse-10 l h = simp (ne-eqb _ _ l, lt-ltb _ _ h)
 
-  module _ (t : ℕ) (l : levels ≡ 0 → ⊥) (h : 4 ≤ z) (e : t ≡ word s (p + 8)) (b : Bool) (y : b ≡ groupType k t) where
+  module _ {t : ℕ} (l : levels ≡ 0 → ⊥) (h : 4 ≤ z) (e : t ≡ word s (p + 8)) {b : Bool} (y : b ≡ groupType k t) where
     pub refuse-11 : b ≡ false → Bad 11 ≡ groupHeaderOf levels s from k z p
     unfolding groupHeaderOf
     refuse-11 i = simp (ne-eqb _ _ l, le-ltb _ _ h, ← e, ← y, i)
 
-    module _ (i : b ≡ true) (d : Bool) (q : d ≡ secondProp k s from p t) where
+    module _ (i : b ≡ true) {d : Bool} (q : d ≡ secondProp k s from p t) where
       pub refuse-12 : d ≡ true → Bad 12 ≡ groupHeaderOf levels s from k z p
       unfolding groupHeaderOf
       refuse-12 j = simp (ne-eqb _ _ l, le-ltb _ _ h, ← e, ← y, i, ← q, j)
@@ -46,7 +46,7 @@ opened-fits levels s p e k z (Leaf z') o i j f = absurd o
 opened-fits levels s p e k z (Group k' z') o i j f =
     record { size = o .1 ∙ j; ends = rw (o .1) f; kind = o .0 ∙ i; typed = rw (o .1) (o .2); level = o .3 }
 
-module _ (levels : ℕ) (s : List ℕ) (from : ℕ) (k : Kind) (p e z : ℕ) (b : z ≡ word s (p + 4)) where
+module _ (levels : ℕ) (s : List ℕ) (from : ℕ) (k : Kind) (p e : ℕ) {z : ℕ} (b : z ≡ word s (p + 4)) where
   pub refuse-7 : e - p - 8 < z → Bad 7 ≡ sizedHeaderOf levels s from k p e
   refuse-7 c = rw (← b, lt-ltb _ _ c)
 
@@ -54,9 +54,9 @@ module _ (levels : ℕ) (s : List ℕ) (from : ℕ) (k : Kind) (p e z : ℕ) (b 
     pub refuse-8 : e - p - 8 < (z + 1) / 2 * 2 → Bad 8 ≡ sizedHeaderOf levels s from k p e
     refuse-8 d = let d' : e - p - 8 - z < z % 2 = omega arith in rw (← b, le-ltb _ _ c, lt-ltb _ _ d')
 
-    module _ (d : (z + 1) / 2 * 2 ≤ e - p - 8) (g : Bool) (q : g ≡ isGroup k) where
-      pub of-group : (r : Header) → g ≡ true → r ≡ groupHeaderOf levels s from k z p → r ≡ sizedHeaderOf levels s from k p e
-      of-group r t R = let d' : z % 2 ≤ e - p - 8 - z = omega arith in rw (← b, le-ltb _ _ c, le-ltb _ _ d', ← q, t) R
+    module _ (d : (z + 1) / 2 * 2 ≤ e - p - 8) {g : Bool} (q : g ≡ isGroup k) where
+      pub of-group : {r : Header} → g ≡ true → r ≡ groupHeaderOf levels s from k z p → r ≡ sizedHeaderOf levels s from k p e
+      of-group t R = let d' : z % 2 ≤ e - p - 8 - z = omega arith in rw (← b, le-ltb _ _ c, le-ltb _ _ d', ← q, t) R
 
       pub of-leaf : g ≡ false → Leaf z ≡ sizedHeaderOf levels s from k p e
       of-leaf t = let d' : z % 2 ≤ e - p - 8 - z = omega arith in rw (← b, le-ltb _ _ c, le-ltb _ _ d', ← q, t)
@@ -72,25 +72,25 @@ module _ (levels : ℕ) (s : List ℕ) (from : ℕ) (w : Position) (p e : ℕ) w
   unfolding headerOf
   refuse-4 h = simp (lt-ltb _ _ h)
 
-  module _ (h : 8 ≤ e - p) (n : ℕ) (i : n ≡ word s p) (f : Bool) (y : f ≡ wellFormed n) where
+  module _ (h : 8 ≤ e - p) {n : ℕ} (i : n ≡ word s p) {f : Bool} (y : f ≡ wellFormed n) where
     pub refuse-5 : f ≡ false → Bad 5 ≡ headerOf levels s from w p e
     unfolding headerOf
     refuse-5 j = simp (le-ltb _ _ h, ← i, ← y, j)
 
-    module _ (j : f ≡ true) (v : Bool) (x : v ≡ versionName n) where
+    module _ (j : f ≡ true) {v : Bool} (x : v ≡ versionName n) where
       pub refuse-3 : v ≡ true → Bad 3 ≡ headerOf levels s from w p e
       unfolding headerOf
       refuse-3 u = simp (le-ltb _ _ h, ← i, ← y, j, ← x, u)
 
-      module _ (u : v ≡ false) (m : Bool) (o : m ≡ misplaced w n) where
+      module _ (u : v ≡ false) {m : Bool} (o : m ≡ misplaced w n) where
         pub refuse-6 : m ≡ true → Bad 6 ≡ headerOf levels s from w p e
         unfolding headerOf
         refuse-6 a = simp (le-ltb _ _ h, ← i, ← y, j, ← x, u) (rw (← o, a))
 
-        pub well-named : (k : Kind) (r : Header) → m ≡ false → k ≡ kindOf n → r ≡ sizedHeaderOf levels s from k p e → r ≡ headerOf levels s from w p e
+        pub well-named : {k : Kind} {r : Header} → m ≡ false → k ≡ kindOf n → r ≡ sizedHeaderOf levels s from k p e → r ≡ headerOf levels s from w p e
         unfolding headerOf
-        well-named k r a l R = simp (le-ltb _ _ h, ← i, ← y, j, ← x, u) (rw (← o, a, ← l) R)
+        well-named a l R = simp (le-ltb _ _ h, ← i, ← y, j, ← x, u) (rw (← o, a, ← l) R)
 
 -- the kind that the name at p gives
-pub kind-at : (s : List ℕ) (p n : ℕ) (k : Kind) → n ≡ word s p → k ≡ kindOf n → k ≡ kindOf (word s p)
-kind-at s p n k i l = l ∙ ap kindOf i
+pub kind-at : (s : List ℕ) (p : ℕ) {n : ℕ} {k : Kind} → n ≡ word s p → k ≡ kindOf n → k ≡ kindOf (word s p)
+kind-at s p i l = l ∙ ap kindOf i

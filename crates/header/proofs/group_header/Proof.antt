@@ -5,17 +5,12 @@ use Rattle.header.proofs.HeaderLaws.{refuse-9, refuse-10, refuse-11, re
 use borrow.Author.Needs.{needs}
 use Rattle.header.proofs.group_header.Statement.{statement}
 use Rattle.header.proofs.group_header.Tie as tie
-use Rattle.header.proofs.group_header.Reads as reads
-use Rattle.header.proofs.group_header.Lts as lts
-use Rattle.rules.proofs.group_type.Reads as group-type-reads
-use Rattle.chunk.proofs.name_at.Reads as name-at-reads
-use Rattle.props.proofs.second_prop.Reads as second-prop-reads
 
 returns : tie.Need-returns
-returns c = search (refuse-9, needs)
+returns c = (refuse-9 _ _ _ _ _ _ (c .if1 .taken), tt)
 
 returns-2 : tie.Need-returns-2
-returns-2 c = search (refuse-10, needs)
+returns-2 c = (refuse-10 _ _ _ _ _ _ (c .before .if1 .left) (c .if2 .taken), tt)
 
 add-name-at : tie.Need-add-name-at
 add-name-at c = search needs
@@ -24,19 +19,40 @@ name-at-requires : tie.Need-name-at-requires
 name-at-requires c κs = search needs
 
 group-type-requires : tie.Need-group-type-requires
-group-type-requires c κs = search needs
+group-type-requires c κs = tt
 
 second-prop-requires : tie.Need-second-prop-requires
-second-prop-requires c κs = search needs
+second-prop-requires c κs = (
+  omega arith,
+  c .before .before .before .before .before .before .pre .1,
+  c .before .before .name-at .ensures,
+  c .before .before .before .before .before .before .pre .2,
+)
 
 returns-3 : tie.Need-returns-3
-returns-3 c = search (refuse-12, needs)
+returns-3 c = (
+  refuse-12 _ _ _ _ _ _ (c .before .before .before .before .before .before .if1 .left)
+      (c .before .before .before .before .before .if2 .left) (c .before .before .before .before .name-at .ensures)
+      (c .before .before .before .group-type .ensures) (c .before .before .if3 .taken) (c .before .second-prop .ensures)
+      (c .if4 .taken),
+  tt,
+)
 
 returns-4 : tie.Need-returns-4
-returns-4 c = (search (group-sound, needs), (refl, refl, omega arith, omega arith))
+returns-4 c = (
+  group-sound _ _ _ _ _ _ (c .before .before .before .before .before .before .if1 .left)
+      (c .before .before .before .before .before .if2 .left) (c .before .before .before .before .name-at .ensures)
+      (c .before .before .before .group-type .ensures) (c .before .before .if3 .taken) (c .before .second-prop .ensures)
+      (c .if4 .left),
+  (refl, refl, c .before .before .before .before .before .if2 .left, omega arith),
+)
 
 returns-5 : tie.Need-returns-5
-returns-5 c = search (refuse-11, needs)
+returns-5 c = (
+  refuse-11 _ _ _ _ _ _ (c .before .before .before .before .if1 .left) (c .before .before .before .if2 .left)
+      (c .before .before .name-at .ensures) (c .before .group-type .ensures) (c .if3 .left),
+  tt,
+)
 
 pub group-header-spec : {M : Type 1} → statement M
 group-header-spec =

@@ -3,11 +3,6 @@ use Rattle.header.proofs.HeaderLaws.{refuse-7, refuse-8, of-group, grou
 use borrow.Author.Needs.{needs}
 use Rattle.header.proofs.sized_header.Statement.{statement}
 use Rattle.header.proofs.sized_header.Tie as tie
-use Rattle.header.proofs.sized_header.Reads as reads
-use Rattle.header.proofs.sized_header.Lts as lts
-use Rattle.header.proofs.group_header.Reads as group-header-reads
-use Rattle.rules.proofs.is_group.Reads as is-group-reads
-use Rattle.chunk.proofs.size_at.Reads as size-at-reads
 
 sub-room : tie.Need-sub-room
 sub-room c = search needs
@@ -22,7 +17,9 @@ size-at-requires : tie.Need-size-at-requires
 size-at-requires c κs = search needs
 
 returns : tie.Need-returns
-returns c = search (refuse-7, needs)
+returns c =
+    let a = c .before .before .before .args in
+    (refuse-7 (a .levels) (a .s .now) (a .from) (a .k) (a .p) (a .e) (c .before .size-at .ensures .0) (c .if1 .taken), tt)
 
 add-if2 : tie.Need-add-if2
 add-if2 c = search needs
@@ -31,19 +28,42 @@ mul-if2 : tie.Need-mul-if2
 mul-if2 c = search needs
 
 returns-2 : tie.Need-returns-2
-returns-2 c = search (refuse-8, needs)
+returns-2 c =
+    let a = c .before .before .before .before .args in (
+      refuse-8 (a .levels) (a .s .now) (a .from) (a .k) (a .p) (a .e) (c .before .before .size-at .ensures .0)
+          (c .before .if1 .left) (c .if2 .taken),
+      tt,
+    )
 
 is-group-requires : tie.Need-is-group-requires
-is-group-requires c κs = search needs
+is-group-requires c κs = tt
 
 group-header-requires : tie.Need-group-header-requires
 group-header-requires c κs = search needs
 
 returns-3 : tie.Need-returns-3
-returns-3 c = search (of-group, group-fits, needs)
+returns-3 c =
+    let a = c .before .before .before .before .before .before .before .args in
+    let pre = c .before .before .before .before .before .before .before .pre in
+    let size = c .before .before .before .before .before .size-at .ensures .0 in
+    let whole = c .before .before .before .before .if1 .left in
+    let even = c .before .before .before .if2 .left in
+    let group = c .before .before .is-group .ensures in (
+      of-group (a .levels) (a .s .now) (a .from) (a .k) (a .p) (a .e) size whole even group (c .before .if3 .taken) (c .group-header .ensures .0),
+      group-fits (a .levels) (a .s .now) (a .from) (a .k) (a .p) (a .e) size whole even group (c .group-header .result) (c .group-header .ensures .1) (pre .2) (pre .0),
+    )
 
 returns-4 : tie.Need-returns-4
-returns-4 c = search (of-leaf, leaf-fits, needs)
+returns-4 c =
+    let a = c .before .before .before .before .before .before .args in
+    let pre = c .before .before .before .before .before .before .pre in
+    let size = c .before .before .before .before .size-at .ensures .0 in
+    let whole = c .before .before .before .if1 .left in
+    let even = c .before .before .if2 .left in
+    let group = c .before .is-group .ensures in (
+      of-leaf (a .levels) (a .s .now) (a .from) (a .k) (a .p) (a .e) size whole even group (c .if3 .left),
+      leaf-fits (a .levels) (a .s .now) (a .from) (a .k) (a .p) (a .e) size whole even group (c .if3 .left) (pre .2) (pre .0),
+    )
 
 pub sized-header-spec : {M : Type 1} → statement M
 sized-header-spec =
