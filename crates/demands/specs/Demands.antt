@@ -23,7 +23,8 @@ use Rattle.pack.specs.Pack.{packed}
 use Rattle.pack.specs.Laws as Packing
 use Rattle.ilbm.specs.declared.BitmapHeader.{BitmapHeader}
 use Rattle.writer.specs.declared.WriteAnswer.the-variants.{Written}
-use Rattle.writer.specs.Write.{pictureFile, writeOf, outAfter}
+use Rattle.picture_file.specs.File.{pictureFile}
+use Rattle.writer.specs.Write.{writeOf, outAfter}
 use Rattle.roundtrip.specs.Header.{InRange}
 use Rattle.roundtrip.specs.RoundTrip as RoundTrip
 use Rattle.additions.specs.Statement as Statement

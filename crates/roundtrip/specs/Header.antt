@@ -6,7 +6,7 @@ use borrow.Author.Tests.{lt-ltb, le-ltb}
 use native.Mathlib.Omega.{arith}
 use Rattle.ilbm.specs.declared.BitmapHeader.{BitmapHeader}
 use Rattle.ilbm.specs.Pictures.{signed, headerIn}
-use Rattle.writer.specs.Write.{unsigned, headerBytes}
+use Rattle.picture_file.specs.File.{unsigned, headerBytes}
 
 -- a signed number of 16 bits
 abbrev pub Short : ℤ → Type 0

@@ -19,7 +19,8 @@ use Rattle.ilbm.specs.Rows.{Read, read, frameRead, linesFrom, leftover, frameOf
 use Rattle.writer.specs.declared.WriteAnswer.{WriteAnswer}
 use Rattle.writer.specs.declared.WriteAnswer.the-variants.{Written}
 use Rattle.body.specs.Body.{bodyLines, bodyBytes}
-use Rattle.writer.specs.Write.{headerBytes, pictureForm, pictureFile, writeOf, outAfter}
+use Rattle.picture_file.specs.File.{headerBytes, pictureForm, pictureFile}
+use Rattle.writer.specs.Write.{writeOf, outAfter}
 use Rattle.roundtrip.specs.Header.{InRange, withoutPad, header-back}
 use Rattle.roundtrip.specs.Lines.{lines-back}
 use Rattle.roundtrip.specs.Seen.{contentFor, one-content, pictureFor, picture-told, palette-told, no-fault}

@@ -15,7 +15,7 @@ use Rattle.ilbm.specs.declared.Picture.{Picture}
 use Rattle.ilbm.specs.Contents.{lastOwn, propertyOf, bodiesIn, Property, own, absent, Content, contentsFrom, contentsOf}
 use Rattle.ilbm.specs.Pictures.{headerIn, hotSpotIn, destinationIn, originOf, sizeNotTriples, wrongSize, headerFault, pictureFault, pictureFrom, paletteFrom}
 use Rattle.body.specs.Body.{bodyBytes}
-use Rattle.writer.specs.Write.{headerBytes, pictureForm}
+use Rattle.picture_file.specs.File.{headerBytes, pictureForm}
 use Rattle.roundtrip.specs.Header.{InRange, withoutPad, header-back}
 use Rattle.roundtrip.specs.Writable.{Writable}
 

@@ -15,7 +15,7 @@ use Rattle.grammar.specs.Accept.{complete, ends}
 use Rattle.ilbm.specs.declared.BitmapHeader.{BitmapHeader}
 use Rattle.ilbm.specs.Contents.{CMAP, BODY}
 use Rattle.body.specs.Body.{bodyBytes}
-use Rattle.writer.specs.Write.{headerBytes, padOf, paletteThen, membersFor, pictureForm, pictureFile}
+use Rattle.picture_file.specs.File.{headerBytes, padOf, paletteThen, membersFor, pictureForm, pictureFile}
 
 -- FORM, BMHD and BODY, and CMAP if there is a palette
 abbrev pub chunksFor : List ℕ → ℕ

@@ -11,7 +11,8 @@ use Rattle.name.specs.Name.{either, pick}
 use Rattle.ilbm.specs.declared.BitmapHeader.{BitmapHeader}
 use Rattle.writer.specs.declared.WriteAnswer.{WriteAnswer}
 use Rattle.writer.specs.declared.WriteAnswer.the-variants.{Written, Refused}
-use Rattle.writer.specs.Write.{pictureFile, wrongFields, colourOver, answerFor, writeOf}
+use Rattle.picture_file.specs.File.{pictureFile}
+use Rattle.writer.specs.Write.{wrongFields, colourOver, answerFor, writeOf}
 use Rattle.roundtrip.specs.Planes.{Below}
 
 -- not 33, 34, 35 or 32, and the length that is told

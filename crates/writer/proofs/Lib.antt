@@ -1,4 +1,2 @@
-pub mod Chunks
-pub mod Files
+pub mod Answers
 pub mod Refusals
-pub mod Signed

@@ -10,7 +10,8 @@ use Rattle.pack.specs.Pack.{packBy, packed}
 use Rattle.ilbm.specs.declared.BitmapHeader.{BitmapHeader}
 use Rattle.planes.specs.Planes.{planeByte, planeRow}
 use Rattle.body.specs.Body.{lineRows, bodyLines, bodyBytes}
-use Rattle.writer.specs.Write.{headerBytes, pictureFile, wrongFields, colourOver, writeOf, lengthOf, numberOf}
+use Rattle.picture_file.specs.File.{headerBytes, pictureFile}
+use Rattle.writer.specs.Write.{wrongFields, colourOver, writeOf, lengthOf, numberOf}
 
 -- three pixels wide and one high, two planes, so compressed
 abbrev small : ℕ → BitmapHeader

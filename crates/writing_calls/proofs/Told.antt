@@ -13,7 +13,8 @@ use Rattle.pack.specs.declared.PackAnswer.{PackAnswer}
 use Rattle.pack.specs.declared.PackAnswer.the-variants.{Written as Pack-written, BadLength, NoRoom}
 use Rattle.writer.specs.declared.WriteAnswer.{WriteAnswer}
 use Rattle.writer.specs.declared.WriteAnswer.the-variants.{Written, Refused}
-use Rattle.writer.specs.Write.{writeOf, outAfter, pictureFile}
+use Rattle.picture_file.specs.File.{pictureFile}
+use Rattle.writer.specs.Write.{writeOf, outAfter}
 use Rattle.writing_calls.specs.Writing.{headerOf, SizeTold, packTold, writeTold}
 
 module _ (x v : PackAnswer) (a : v ≡ x) where

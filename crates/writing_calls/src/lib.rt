@@ -5,7 +5,8 @@ use writer::WriteAnswer;
 ghost use mathlib.Core.Path.{_≡_};
 ghost use lib.ListN.{length};
 ghost use Rattle.pack.specs.Pack.{packOf, outAfter as packedInto};
-ghost use Rattle.writer.specs.Write.{writeOf, outAfter, pictureFile};
+ghost use Rattle.picture_file.specs.File.{pictureFile};
+ghost use Rattle.writer.specs.Write.{writeOf, outAfter};
 ghost use Rattle.writing_calls.specs.Writing.{headerOf, packTold, writeTold};
 
 // Packs a row of 1 to 8,192 bytes into `out`: 31 for a row of another length, 32 if `out` is too short.

@@ -1,6 +1,7 @@
 -- Each way out has its law, from what the tests before it showed.
 use native.Mathlib.Omega.{arith}
-use Rattle.writer.proofs.Files.{file-size, fields-right, palette-small, answer-33, answer-34, answer-35, answer-32, room-0, answer-0}
+use Rattle.picture_file.proofs.Files.{file-size, palette-small}
+use Rattle.writer.proofs.Answers.{fields-right, answer-33, answer-34, answer-35, answer-32, room-0, answer-0}
 use borrow.Author.Needs.{needs}
 use Rattle.writer.proofs.write_picture.Statement.{statement}
 use Rattle.writer.proofs.write_picture.Tie as tie

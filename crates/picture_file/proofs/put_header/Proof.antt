@@ -1,8 +1,8 @@
 -- The type and the header of BMHD are copied, and behind them its data.
-use Rattle.writer.proofs.Chunks.{chunk-laws}
+use Rattle.picture_file.proofs.Chunks.{chunk-laws}
 use borrow.Author.Needs.{needs}
-use Rattle.writer.proofs.put_header.Statement.{statement}
-use Rattle.writer.proofs.put_header.Tie as tie
+use Rattle.picture_file.proofs.put_header.Statement.{statement}
+use Rattle.picture_file.proofs.put_header.Tie as tie
 
 slice-aggregate-copy-run : tie.Need-slice-aggregate-copy-run
 slice-aggregate-copy-run c = search needs

@@ -10,7 +10,7 @@ use mir.Val.{SFits, Fits, toZ, ofZ}
 use mir.ValLaws.{toZ-ofZ}
 use borrow.Author.Tests.{ltb-true, lt-leb}
 use native.Mathlib.Omega.{arith}
-use Rattle.writer.specs.Write.{unsigned}
+use Rattle.picture_file.specs.File.{unsigned}
 
 from-below : (k : ℕ) → negsuc 0 -ℤ negsuc k ≡ pos k
 from-below zero = refl

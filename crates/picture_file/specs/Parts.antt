@@ -11,7 +11,7 @@ use Rattle.chunk.specs.Chunks.{Chunks, none, group, putWord, bytes}
 use Rattle.ilbm.specs.declared.BitmapHeader.{BitmapHeader}
 use Rattle.ilbm.specs.Contents.{FORM, ILBM, BMHD, CMAP, BODY}
 use Rattle.body.specs.Body.{bodyBytes}
-use Rattle.writer.specs.Write.{headerBytes, padOf, membersFor, pictureFile}
+use Rattle.picture_file.specs.File.{headerBytes, padOf, membersFor, pictureFile}
 
 -- the header of a chunk
 abbrev pub chunkHead : ℕ → ℕ → List ℕ

@@ -1,8 +1,8 @@
 -- The eight bytes are copied to their place.
-use Rattle.writer.proofs.Chunks.{chunk-laws}
+use Rattle.picture_file.proofs.Chunks.{chunk-laws}
 use borrow.Author.Needs.{needs}
-use Rattle.writer.proofs.put_head.Statement.{statement}
-use Rattle.writer.proofs.put_head.Tie as tie
+use Rattle.picture_file.proofs.put_head.Statement.{statement}
+use Rattle.picture_file.proofs.put_head.Tie as tie
 
 head-bytes-requires : tie.Need-head-bytes-requires
 head-bytes-requires c κs = search needs

@@ -1,8 +1,8 @@
 -- An odd size has a pad of one zero byte, an even one has none.
-use Rattle.writer.proofs.Chunks.{chunk-laws}
+use Rattle.picture_file.proofs.Chunks.{chunk-laws}
 use borrow.Author.Needs.{needs}
-use Rattle.writer.proofs.put_pad.Statement.{statement}
-use Rattle.writer.proofs.put_pad.Tie as tie
+use Rattle.picture_file.proofs.put_pad.Statement.{statement}
+use Rattle.picture_file.proofs.put_pad.Tie as tie
 
 slice-write-out : tie.Need-slice-write-out
 slice-write-out c = search needs

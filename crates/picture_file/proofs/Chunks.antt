@@ -11,8 +11,8 @@ use Rattle.chunk.specs.Chunks.{putWord}
 use Rattle.ilbm.specs.declared.BitmapHeader.{BitmapHeader}
 use Rattle.ilbm.specs.Contents.{ILBM, BMHD, CMAP}
 use Rattle.planes.specs.Put.{put}
-use Rattle.writer.specs.Parts.{chunkHead, chunkBytes, paletteChunk, typeAndHeader, paletteSize, header-length}
-use Rattle.writer.specs.Write.{headerBytes, unsigned}
+use Rattle.picture_file.specs.Parts.{chunkHead, chunkBytes, paletteChunk, typeAndHeader, paletteSize, header-length}
+use Rattle.picture_file.specs.File.{headerBytes, unsigned}
 use Rattle.planes.proofs.Buffers.{put-none, put-next, put-put, put-length}
 
 -- a copy of all of a slice

@@ -1,8 +1,8 @@
 -- An empty palette has no chunk; any other has a header, its bytes and a pad.
-use Rattle.writer.proofs.Chunks.{chunk-laws}
+use Rattle.picture_file.proofs.Chunks.{chunk-laws}
 use borrow.Author.Needs.{needs}
-use Rattle.writer.proofs.palette_size.Statement.{statement}
-use Rattle.writer.proofs.palette_size.Tie as tie
+use Rattle.picture_file.proofs.palette_size.Statement.{statement}
+use Rattle.picture_file.proofs.palette_size.Tie as tie
 
 returns : tie.Need-returns
 returns c = search (chunk-laws, needs)

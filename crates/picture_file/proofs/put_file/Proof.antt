@@ -1,9 +1,9 @@
 -- Each part is put behind the one before it, and what is left has room since the file has.
 use native.Mathlib.Omega.{arith}
-use Rattle.writer.proofs.Files.{file-fits, file-short, file-put}
+use Rattle.picture_file.proofs.Files.{file-fits, file-short, file-put}
 use borrow.Author.Needs.{needs}
-use Rattle.writer.proofs.put_file.Statement.{statement}
-use Rattle.writer.proofs.put_file.Tie as tie
+use Rattle.picture_file.proofs.put_file.Statement.{statement}
+use Rattle.picture_file.proofs.put_file.Tie as tie
 
 palette-size-requires : tie.Need-palette-size-requires
 palette-size-requires c κs = search needs

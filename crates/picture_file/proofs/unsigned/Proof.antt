@@ -1,7 +1,7 @@
 -- The number is tested for its sign; each arm has its law.
-use Rattle.writer.proofs.Signed.{lowered, lowered-fits, lowered-cast, lowered-most, lowered-told, plain-cast}
-use Rattle.writer.proofs.unsigned.Statement.{statement}
-use Rattle.writer.proofs.unsigned.Tie as tie
+use Rattle.picture_file.proofs.Signed.{lowered, lowered-fits, lowered-cast, lowered-most, lowered-told, plain-cast}
+use Rattle.picture_file.proofs.unsigned.Statement.{statement}
+use Rattle.picture_file.proofs.unsigned.Tie as tie
 
 sub-m : tie.Need-sub-m
 sub-m c = lowered-fits _ (lowered _ (c .before .fits .x) (c .if1 .taken))

@@ -1,9 +1,9 @@
 -- Header, bytes and pad are put one behind the other; an empty palette leaves the buffer.
 use native.Mathlib.Omega.{arith}
-use Rattle.writer.proofs.Chunks.{palette-room, palette-put, palette-none}
+use Rattle.picture_file.proofs.Chunks.{palette-room, palette-put, palette-none}
 use borrow.Author.Needs.{needs}
-use Rattle.writer.proofs.put_palette.Statement.{statement}
-use Rattle.writer.proofs.put_palette.Tie as tie
+use Rattle.picture_file.proofs.put_palette.Statement.{statement}
+use Rattle.picture_file.proofs.put_palette.Tie as tie
 
 put-head-requires : tie.Need-put-head-requires
 put-head-requires c κs = (omega arith, omega arith, omega (arith, palette-room _ _ (c .before .if1 .taken) (c .before .before .before .before .pre .1)))

@@ -1,9 +1,9 @@
 -- Each byte is the one that its field asks for; a signed field goes through its bits.
-use Rattle.writer.proofs.Chunks.{header-is}
-use Rattle.writer.proofs.Signed.{unsigned-field}
+use Rattle.picture_file.proofs.Chunks.{header-is}
+use Rattle.picture_file.proofs.Signed.{unsigned-field}
 use borrow.Author.Needs.{needs}
-use Rattle.writer.proofs.header_bytes.Statement.{statement}
-use Rattle.writer.proofs.header_bytes.Tie as tie
+use Rattle.picture_file.proofs.header_bytes.Statement.{statement}
+use Rattle.picture_file.proofs.header_bytes.Tie as tie
 
 unsigned-requires : tie.Need-unsigned-requires
 unsigned-requires c κs = search needs
