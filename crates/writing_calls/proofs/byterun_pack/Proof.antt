@@ -23,19 +23,25 @@ same-length : tie.Need-same-length
 same-length c = search needs
 
 returns : tie.Need-returns
-returns c = search (pack-written, needs)
+returns c =
+    let w = c .before .before .before .before .before .pack-row .ensures in
+    (pack-written _ _ (w .0) _ (c .before .v .given .1), w .1)
 
 same-length-2 : tie.Need-same-length-2
 same-length-2 c = search needs
 
 returns-2 : tie.Need-returns-2
-returns-2 c = search (pack-bad-length, needs)
+returns-2 c =
+    let w = c .before .before .before .before .pack-row .ensures in
+    (pack-bad-length _ _ (w .0) (c .enum-told .given .1), w .1)
 
 same-length-3 : tie.Need-same-length-3
 same-length-3 c = search needs
 
 returns-3 : tie.Need-returns-3
-returns-3 c = search (pack-no-room, needs)
+returns-3 c =
+    let w = c .before .before .before .before .pack-row .ensures in
+    (pack-no-room _ _ (w .0) (c .enum-told2 .given .1), w .1)
 
 pub byterun-pack-spec : {M : Type 1} → statement M
 byterun-pack-spec =
