@@ -83,8 +83,6 @@ product-fits a b h k =
     let p : a * b ≤ 65535 * 65535 = mul-le-mul l m in
     record { fits = omega arith }
 
-pub ruleset field-laws = (wrong-width, wrong-height, no-planes, many-planes, mask-plane, wrong-masking, wrong-compression, no-triples, long-palette, wrong-frame, product-fits)
-
 -- a power of two is small
 pub power-small : (k v : ℕ) → v ≡ 2 ^ k → k ≤ 8 → v ≤ 256
 power-small k v e h = let p : 2 ^ k ≤ 2 ^ 8 = pow-le-pow-right (omega arith) h in omega arith
@@ -109,8 +107,6 @@ raised-more k v i r h = record { inside = omega arith; is = power-more i v (r .i
 pub raised-all : (k v i : ℕ) → Raised k v i → k ≤ i → v ≡ 2 ^ k
 raised-all k v i r h = power-at i k v (r .inside) h (r .is)
 
-pub ruleset power-laws = (raised-none, raised-fits, raised-more, raised-all)
-
 -- what is left of a frame holds a colour number that is too high exactly if the frame does
 module _ (most : ℕ) (frame : List ℕ) where
   pub record Passed (i : ℕ) : Type 0 where
@@ -133,5 +129,3 @@ module _ (most : ℕ) (frame : List ℕ) where
   pub passed-all : (i : ℕ) → Passed i → length frame ≤ i → false ≡ colourOver most frame
   unfolding colourOver
   passed-all i p h = sym (p .same ∙ rw (drop-of-length-le frame h))
-
-pub ruleset colour-laws = (passed-none, over-here, passed-more, passed-all)
