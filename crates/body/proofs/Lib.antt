@@ -1,3 +1,4 @@
 pub mod Body
+pub mod Counting
 pub mod Lines
 pub mod Rows

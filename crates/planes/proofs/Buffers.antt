@@ -68,6 +68,13 @@ put-back out bs last at h e =
     let z : drop (length out - at) (drop at out) ≡ [] = drop-of-length-le (drop at out) m in
     rw (e, z, append-nil (bs ++ drop (length bs) (take (length out - at) (drop at out))), t, drop-drop (length bs) at out)
 
+-- The bytes `rest` are `part` and then `more`.
+pub record Split (rest part more : List ℕ) : Type 0 where
+  pub is : rest ≡ part ++ more
+
+pub split-length : (rest part more : List ℕ) → Split rest part more → length rest ≡ length part + length more
+split-length rest part more e = ap (λ (l : List ℕ). length l) (e .is) ∙ length-append part more
+
 -- Of the bytes `all`, which are to stand at a place, those before `rest` are put.
 pub record Putting (all old : List ℕ) (at : ℕ) (out : List ℕ) (q : ℕ) (rest : List ℕ) : Type 0 where
   pub done : List ℕ
@@ -75,8 +82,8 @@ pub record Putting (all old : List ℕ) (at : ℕ) (out : List ℕ) (q : ℕ) (r
   pub place : q ≡ at + length done
   pub bytes : out ≡ put old at done
 
-pub putting-none : (all old : List ℕ) (at : ℕ) → Putting all old at old at all
-putting-none all old at = record { done = []; parts = refl; place = sym (add-zero at); bytes = sym (put-none old at) }
+pub putting-none : (all rest old : List ℕ) (at : ℕ) → rest ≡ all → Putting all old at old at rest
+putting-none all rest old at e = record { done = []; parts = sym e; place = sym (add-zero at); bytes = sym (put-none old at) }
 
 module _ (all old : List ℕ) (at : ℕ) (out : List ℕ) (q : ℕ) (rest : List ℕ) (p : Putting all old at out q rest) (room : Room all old at) where
   whole-length : length all ≡ length (p .done) + length rest
@@ -88,14 +95,11 @@ module _ (all old : List ℕ) (at : ℕ) (out : List ℕ) (q : ℕ) (rest : List
       let f = room .fits in
       rw (p .bytes) (put-length old at (p .done) (omega arith))
 
-  module _ (bs more : List ℕ) (e : rest ≡ bs ++ more) where
-    part-length : length rest ≡ length bs + length more
-    part-length = ap (λ (l : List ℕ). length l) e ∙ length-append bs more
-
+  module _ (bs more : List ℕ) (e : Split rest bs more) where
     pub putting-room : Room bs out q
     putting-room =
         let a = whole-length in
-        let b = part-length in
+        let b = split-length rest bs more e in
         let c = putting-length in
         let f = room .fits in
         let g = room .short in
@@ -105,12 +109,12 @@ module _ (all old : List ℕ) (at : ℕ) (out : List ℕ) (q : ℕ) (rest : List
     pub putting-more : (r : ℕ) (after : List ℕ) → r ≡ q + length bs → after ≡ put out q bs → Putting all old at after r more
     putting-more r after d w =
         let a = whole-length in
-        let b = part-length in
+        let b = split-length rest bs more e in
         let f = room .fits in
         let z : put out q bs ≡ put old at (p .done ++ bs) = rw (p .bytes, p .place) (put-put old at (p .done) bs (omega arith)) in
         record {
           done = p .done ++ bs;
-          parts = p .parts ∙ rw (e, append-assoc (p .done) bs more);
+          parts = p .parts ∙ rw (e .is, append-assoc (p .done) bs more);
           place = let n = length-append (p .done) bs in let y = p .place in omega arith;
           bytes = w ∙ z;
         }
