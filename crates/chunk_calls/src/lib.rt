@@ -69,7 +69,7 @@ pub extern "C" fn iff_data(
     ensures { λ r. ⌜ record { number = r; place = now (place .exit); from = now (from .exit); to = now (to .exit) }
         ≡ dataTold (extentOf (now (file .entry)) number) ⌝ }
 {
-    let v = lookup::data_extent(file, number);
+    let v = extents::data_extent(file, number);
     match v {
         Extent::Data { from: a, to: b } => {
             *place = 0;
