@@ -5,7 +5,7 @@ use Rattle.chunk_calls.proofs.iff_data.Statement.{statement}
 use Rattle.chunk_calls.proofs.iff_data.Tie as tie
 use Rattle.chunk_calls.proofs.iff_data.Reads as reads
 use Rattle.chunk_calls.proofs.iff_data.Lts as lts
-use Rattle.lookup.proofs.data_extent.Reads as data-extent-reads
+use Rattle.extents.proofs.data_extent.Reads as data-extent-reads
 
 data-extent-requires : tie.Need-data-extent-requires
 data-extent-requires c κs = search needs
@@ -17,10 +17,10 @@ enum-known-v-2 : tie.Need-enum-known-v-2
 enum-known-v-2 c = search needs
 
 returns : tie.Need-returns
-returns c = search (data-lies, needs)
+returns c = data-lies _ _ (c .before .before .before .data-extent .ensures) _ _ (c .before .v .given .1)
 
 returns-2 : tie.Need-returns-2
-returns-2 c = search (data-refused, needs)
+returns-2 c = data-refused _ _ (c .before .before .before .data-extent .ensures) _ _ (c .before .v2 .given .1)
 
 pub iff-data-spec : {M : Type 1} → statement M
 iff-data-spec =

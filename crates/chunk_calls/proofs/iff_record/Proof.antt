@@ -21,10 +21,10 @@ enum-known-v-2 : tie.Need-enum-known-v-2
 enum-known-v-2 c = search needs
 
 returns : tie.Need-returns
-returns c = search (record-listed, needs)
+returns c = record-listed _ _ (c .before .before .before .before .record-by-number .ensures) _ _ (c .before .before .v .given .1) (c .kind-number .ensures)
 
 returns-2 : tie.Need-returns-2
-returns-2 c = search (record-refused, needs)
+returns-2 c = record-refused _ _ (c .before .before .before .record-by-number .ensures) _ _ (c .before .v2 .given .1)
 
 pub iff-record-spec : {M : Type 1} → statement M
 iff-record-spec =

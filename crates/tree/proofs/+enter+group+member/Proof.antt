@@ -6,7 +6,7 @@ use mathlib.Core.Path.{refl}
 use native.Mathlib.Omega.{arith}
 use borrow.Author.Needs.{needs}
 use Rattle.tree.specs.Judge.{chunkAt, membersOf, toldAll}
-use Rattle.tree.proofs.WalkLaws.{Runs, walk-laws}
+use Rattle.tree.proofs.WalkLaws.{Runs, walk-laws, member-leaf, leaf-ahead}
 use Rattle.props.proofs.RepeatLaws.{OnWay}
 use Rattle.tree.proofs.WayLaws.{way-laws}
 use borrow.Fn.Kinds.{In}
@@ -241,7 +241,11 @@ member-returns : (t : ℕ) → member-lts.Need-returns (member-calls t) (member-
 member-returns t c = search (walk-laws, needs)
 
 member-returns-2 : (t : ℕ) → member-lts.Need-returns-2 (member-calls t) (member-at t) member.Post
-member-returns-2 t c = search (walk-laws, needs)
+member-returns-2 t c =
+    let k = c .before .before .before in
+    let a = k .before .before .args in
+    let h = k .judge-header .ensures in
+    (member-leaf (a .s .now) (a .w) (a .p) (a .e) (a .from) (a .n) _ (a .levels) _ (h .0) (c .before .h2 .given .1) (h .1), search (leaf-ahead, needs))
 
 member-returns-3 : (t : ℕ) → member-lts.Need-returns-3 (member-calls t) (member-at t) member.Post
 member-returns-3 t c = search (walk-laws, needs)

@@ -1,5 +1,5 @@
 -- 1, 2 and 3 are tested in that order; what is left is judged as the outermost chunk.
-use Rattle.tree.proofs.WalkLaws.{file-laws}
+use Rattle.tree.proofs.WalkLaws.{file-laws, too-long, too-short}
 use borrow.Author.Needs.{needs}
 use Rattle.tree.proofs.check.Statement.{statement}
 use Rattle.tree.proofs.check.Tie as tie
@@ -12,10 +12,10 @@ use Rattle.chunk.proofs.name_at.Reads as name-at-reads
 use Rattle.tree.proofs.outermost.Reads as outermost-reads
 
 returns : tie.Need-returns
-returns c = search (file-laws, needs)
+returns c = too-long _ (search needs)
 
 returns-2 : tie.Need-returns-2
-returns-2 c = search (file-laws, needs)
+returns-2 c = too-short _ (search needs) (search needs)
 
 name-at-requires : tie.Need-name-at-requires
 name-at-requires c κs = search needs

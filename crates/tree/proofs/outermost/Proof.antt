@@ -1,6 +1,9 @@
 -- What `member` tells of the chunk at 0, with 16 levels left and the file's end as its parent's; it ends inside, so that the rest
 -- can be counted.
-use Rattle.tree.proofs.WalkLaws.{file-laws}
+use lib.ListN.{length}
+use Rattle.rules.specs.declared.Position.the-variants.{Outermost}
+use Rattle.tree.specs.Judge.{chunkAt}
+use Rattle.tree.proofs.WalkLaws.{file-laws, file-accepted, file-refused}
 use Rattle.tree.proofs.WayLaws.{way-laws}
 use borrow.Author.Needs.{needs}
 use Rattle.tree.proofs.outermost.Statement.{statement}
@@ -22,10 +25,14 @@ enum-known-v-2 : tie.Need-enum-known-v-2
 enum-known-v-2 c = search needs
 
 returns : tie.Need-returns
-returns c = search (file-laws, needs)
+returns c =
+    let s = c .before .before .before .before .before .args .s .now in
+    file-accepted s (chunkAt 16 s 0 Outermost 0 (length s)) _ (c .before .before .before .member .ensures .0) _ _ _ (c .before .v .given .1)
 
 returns-2 : tie.Need-returns-2
-returns-2 c = search (file-laws, needs)
+returns-2 c =
+    let s = c .before .before .before .before .before .args .s .now in
+    file-refused s (chunkAt 16 s 0 Outermost 0 (length s)) _ (c .before .before .before .member .ensures .0) _ _ (c .before .v2 .given .1)
 
 pub outermost-spec : {M : Type 1} → statement M
 outermost-spec =

@@ -1,10 +1,10 @@
 -- `data` meets its contract: the part that the extent names is the chunk's data.
 use native.Mathlib.Omega.{arith}
 use Rattle.grammar.specs.Words.{Bytes}
-use Rattle.lookup.proofs.DataLaws.{data-laws}
+use Rattle.extents.proofs.DataLaws.{data-laws}
 use borrow.Author.Needs.{needs}
-use Rattle.lookup.proofs.data.Statement.{statement}
-use Rattle.lookup.proofs.data.Tie as tie
+use Rattle.extents.proofs.data.Statement.{statement}
+use Rattle.extents.proofs.data.Tie as tie
 
 data-extent-requires : tie.Need-data-extent-requires
 data-extent-requires c κs = search needs

@@ -1,10 +1,10 @@
 -- By the cases of the answer of `clean_copy`, which settles the buffer.
-use Rattle.chunk_calls.proofs.Told.{copy-written, copy-refused}
+use Rattle.file_calls.proofs.Told.{copy-written, copy-refused}
 use borrow.Author.Needs.{needs}
-use Rattle.chunk_calls.proofs.iff_clean_copy.Statement.{statement}
-use Rattle.chunk_calls.proofs.iff_clean_copy.Tie as tie
-use Rattle.chunk_calls.proofs.iff_clean_copy.Reads as reads
-use Rattle.chunk_calls.proofs.iff_clean_copy.Lts as lts
+use Rattle.file_calls.proofs.iff_clean_copy.Statement.{statement}
+use Rattle.file_calls.proofs.iff_clean_copy.Tie as tie
+use Rattle.file_calls.proofs.iff_clean_copy.Reads as reads
+use Rattle.file_calls.proofs.iff_clean_copy.Lts as lts
 use Rattle.copy.proofs.clean_copy.Reads as clean-copy-reads
 
 clean-copy-requires : tie.Need-clean-copy-requires
@@ -20,13 +20,13 @@ same-length : tie.Need-same-length
 same-length c = search needs
 
 returns : tie.Need-returns
-returns c = search (copy-written, needs)
+returns c = (copy-written _ _ (c .before .before .before .before .before .clean-copy .ensures .0) _ (c .before .v .given .1), c .before .before .before .before .before .clean-copy .ensures .1)
 
 same-length-2 : tie.Need-same-length-2
 same-length-2 c = search needs
 
 returns-2 : tie.Need-returns-2
-returns-2 c = search (copy-refused, needs)
+returns-2 c = (copy-refused _ _ (c .before .before .before .before .before .clean-copy .ensures .0) _ _ (c .before .v2 .given .1), c .before .before .before .before .before .clean-copy .ensures .1)
 
 pub iff-clean-copy-spec : {M : Type 1} → statement M
 iff-clean-copy-spec =

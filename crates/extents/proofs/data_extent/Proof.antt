@@ -1,10 +1,10 @@
 -- `data_extent` meets its contract: it is the extent by the record of that number, and a chunk lies in the file.
 use native.Mathlib.Omega.{arith}
 use Rattle.grammar.specs.Words.{Bytes}
-use Rattle.lookup.proofs.DataLaws.{extent-laws}
+use Rattle.extents.proofs.DataLaws.{extent-laws}
 use borrow.Author.Needs.{needs}
-use Rattle.lookup.proofs.data_extent.Statement.{statement}
-use Rattle.lookup.proofs.data_extent.Tie as tie
+use Rattle.extents.proofs.data_extent.Statement.{statement}
+use Rattle.extents.proofs.data_extent.Tie as tie
 
 record-by-number-requires : tie.Need-record-by-number-requires
 record-by-number-requires c κs = search needs

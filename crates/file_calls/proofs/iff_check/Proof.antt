@@ -1,10 +1,10 @@
 -- By the cases of the verdict: its values are stored, or 0 beside a refusal.
-use Rattle.chunk_calls.proofs.Told.{check-accepted, check-refused}
+use Rattle.file_calls.proofs.Told.{check-accepted, check-refused}
 use borrow.Author.Needs.{needs}
-use Rattle.chunk_calls.proofs.iff_check.Statement.{statement}
-use Rattle.chunk_calls.proofs.iff_check.Tie as tie
-use Rattle.chunk_calls.proofs.iff_check.Reads as reads
-use Rattle.chunk_calls.proofs.iff_check.Lts as lts
+use Rattle.file_calls.proofs.iff_check.Statement.{statement}
+use Rattle.file_calls.proofs.iff_check.Tie as tie
+use Rattle.file_calls.proofs.iff_check.Reads as reads
+use Rattle.file_calls.proofs.iff_check.Lts as lts
 use Rattle.tree.proofs.check.Reads as check-reads
 
 check-requires : tie.Need-check-requires
@@ -17,10 +17,10 @@ enum-known-v-2 : tie.Need-enum-known-v-2
 enum-known-v-2 c = search needs
 
 returns : tie.Need-returns
-returns c = search (check-accepted, needs)
+returns c = check-accepted _ _ (c .before .before .before .check .ensures) _ _ _ (c .before .v .given .1)
 
 returns-2 : tie.Need-returns-2
-returns-2 c = search (check-refused, needs)
+returns-2 c = check-refused _ _ (c .before .before .before .check .ensures) _ _ (c .before .v2 .given .1)
 
 pub iff-check-spec : {M : Type 1} → statement M
 iff-check-spec = tie.close (tie.spec check-requires enum-known-v enum-known-v-2 returns returns-2)

@@ -1,10 +1,10 @@
 -- By the cases of the answer of `count_pictures`: the count is stored, or 0 beside a refusal.
-use Rattle.chunk_calls.proofs.Told.{pictures-counted, count-refused}
+use Rattle.file_calls.proofs.Told.{pictures-counted, count-refused}
 use borrow.Author.Needs.{needs}
-use Rattle.chunk_calls.proofs.iff_count_pictures.Statement.{statement}
-use Rattle.chunk_calls.proofs.iff_count_pictures.Tie as tie
-use Rattle.chunk_calls.proofs.iff_count_pictures.Reads as reads
-use Rattle.chunk_calls.proofs.iff_count_pictures.Lts as lts
+use Rattle.file_calls.proofs.iff_count_pictures.Statement.{statement}
+use Rattle.file_calls.proofs.iff_count_pictures.Tie as tie
+use Rattle.file_calls.proofs.iff_count_pictures.Reads as reads
+use Rattle.file_calls.proofs.iff_count_pictures.Lts as lts
 use Rattle.count.proofs.count_pictures.Reads as count-pictures-reads
 
 count-pictures-requires : tie.Need-count-pictures-requires
@@ -17,10 +17,10 @@ enum-known-v-2 : tie.Need-enum-known-v-2
 enum-known-v-2 c = search needs
 
 returns : tie.Need-returns
-returns c = search (pictures-counted, needs)
+returns c = pictures-counted _ _ (c .before .before .before .count-pictures .ensures) _ (c .before .v .given .1)
 
 returns-2 : tie.Need-returns-2
-returns-2 c = search (count-refused, needs)
+returns-2 c = count-refused _ _ (c .before .before .before .count-pictures .ensures) _ _ (c .before .v2 .given .1)
 
 pub iff-count-pictures-spec : {M : Type 1} → statement M
 iff-count-pictures-spec =

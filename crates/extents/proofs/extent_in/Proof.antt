@@ -1,8 +1,8 @@
 -- `extent_in` meets its contract, by whether the record is a group's.
-use Rattle.lookup.proofs.DataLaws.{extent-laws}
+use Rattle.extents.proofs.DataLaws.{extent-laws}
 use borrow.Author.Needs.{needs}
-use Rattle.lookup.proofs.extent_in.Statement.{statement}
-use Rattle.lookup.proofs.extent_in.Tie as tie
+use Rattle.extents.proofs.extent_in.Statement.{statement}
+use Rattle.extents.proofs.extent_in.Tie as tie
 
 is-group-requires : tie.Need-is-group-requires
 is-group-requires c κs = search needs
