@@ -12,7 +12,7 @@ use Rattle.listing.specs.declared.Listed.the-variants.{Chunk as Listed-chunk}
 use Rattle.listing.specs.Records.{recordOf, countOf}
 use Rattle.cursor.specs.declared.Cursor.{Cursor}
 use Rattle.cursor.specs.Cursors.{firstCursor, Located}
-use Rattle.records.specs.Rows.{Ready}
+use Rattle.room.specs.Room.{Ready}
 use Rattle.records.proofs.RowLaws.{partly, placed-length, goes-on, starts}
 use Rattle.cursor.proofs.Cursor as Cur
 

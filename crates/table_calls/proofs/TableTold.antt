@@ -6,7 +6,8 @@ use Rattle.told.specs.Told.{OneTold}
 use Rattle.tree.specs.Judge.{checkOf}
 use Rattle.tree.specs.declared.Verdict.{Verdict}
 use Rattle.tree.specs.declared.Verdict.the-variants.{Accepted, Refused}
-use Rattle.table.specs.Table.{answerOf, Filled}
+use Rattle.room.specs.Room.{answerOf}
+use Rattle.table.specs.Table.{Filled}
 use Rattle.table_calls.specs.Numbers.{recordsTold}
 
 module _

@@ -3,7 +3,8 @@
 use tree::Verdict;
 ghost use mathlib.Core.Path.{_≡_};
 ghost use Rattle.tree.specs.Judge.{checkOf};
-ghost use Rattle.table.specs.Table.{roomOf, answerOf, Filled};
+ghost use Rattle.room.specs.Room.{answerOf};
+ghost use Rattle.table.specs.Table.{roomOf, Filled};
 ghost use Rattle.table_calls.specs.Numbers.{recordsTold};
 
 // The records of all chunks of a file, in file order.

@@ -43,17 +43,18 @@ use denote.Exit.{yes}
 use Rattle.tree.specs.Judge.{checkOf}
 use Rattle.tree.specs.declared.Verdict.{Verdict}
 use Rattle.listing.specs.declared.Record.{Record}
-use Rattle.table.specs.Table.{answerOf}
-use Rattle.records.specs.Rows.{placed, toPut, Ready}
-use Rattle.records.proofs.RowLaws.{partly, all-of, no-more-than}
+use Rattle.room.specs.Room.{answerOf, toPut, Ready}
+use Rattle.room.proofs.RoomLaws.{all-of, no-more-than}
+use Rattle.records.specs.Rows.{placed}
+use Rattle.records.proofs.RowLaws.{partly}
 use Rattle.tree.proofs.Verdict as Ver
 use Rattle.tree.proofs.Verdict.Laws as Ver′
-use Rattle.records.proofs.answer as ans
-use Rattle.records.proofs.answer.Symbol as ans-def
-use Rattle.records.proofs.answer.Met as ans-thm
-use Rattle.records.proofs.to_put as to-put
-use Rattle.records.proofs.to_put.Symbol as to-put-def
-use Rattle.records.proofs.to_put.Met as to-put-thm
+use Rattle.room.proofs.answer as ans
+use Rattle.room.proofs.answer.Symbol as ans-def
+use Rattle.room.proofs.answer.Met as ans-thm
+use Rattle.room.proofs.to_put as to-put
+use Rattle.room.proofs.to_put.Symbol as to-put-def
+use Rattle.room.proofs.to_put.Met as to-put-thm
 use Rattle.records.proofs.put_records as put
 use Rattle.records.proofs.put_records.Symbol as put-def
 use Rattle.records.proofs.put_records.Met as put-thm
@@ -269,6 +270,6 @@ fill-spec 𝓤 H 𝓜 𝓖 𝓡 =
     entered 𝓤 H (tripleOf 𝓤 H (𝓖 .A) f.signature (f.spec 𝓤 H (𝓖 .A) (𝓜 .mem) (𝓡 .run)))
     (tables 𝓤 H 𝓜 𝓡 code.env .C) (tables 𝓤 H 𝓜 𝓡 code.env .Λ) #records·fill code.function (code.unfolded 𝓤 H 𝓜 𝓡)
     (fill-meets 𝓤 H (𝓖 .A) (givenOf 𝓤 H 𝓜 𝓖) (𝓜 .mem) (𝓡 .run) (tablesOf 𝓤 H 𝓜 (tables 𝓤 H 𝓜 𝓡 code.env))
-    (cited 𝓤 H (Answer 𝓤 H (𝓖 .A) (𝓜 .mem) (𝓡 .run)) 𝓜 𝓡 code.env ans-def.name ans-def.routine code.calls-records·answer (ans-thm.met 𝓤 H 𝓜 𝓖 𝓡))
-    (cited 𝓤 H (ToPut 𝓤 H (𝓖 .A) (𝓜 .mem) (𝓡 .run)) 𝓜 𝓡 code.env to-put-def.name to-put-def.routine code.calls-records·to-put (to-put-thm.met 𝓤 H 𝓜 𝓖 𝓡))
+    (cited 𝓤 H (Answer 𝓤 H (𝓖 .A) (𝓜 .mem) (𝓡 .run)) 𝓜 𝓡 code.env ans-def.name ans-def.routine code.calls-room·answer (ans-thm.met 𝓤 H 𝓜 𝓖 𝓡))
+    (cited 𝓤 H (ToPut 𝓤 H (𝓖 .A) (𝓜 .mem) (𝓡 .run)) 𝓜 𝓡 code.env to-put-def.name to-put-def.routine code.calls-room·to-put (to-put-thm.met 𝓤 H 𝓜 𝓖 𝓡))
     (cited 𝓤 H (PutRecords 𝓤 H (𝓖 .A) (𝓜 .mem) (𝓡 .run)) 𝓜 𝓡 code.env put-def.name put-def.routine code.calls-records·put-records (put-thm.met 𝓤 H 𝓜 𝓖 𝓡)))

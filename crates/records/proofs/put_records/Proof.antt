@@ -52,7 +52,7 @@ use Rattle.listing.specs.declared.Listed.the-variants.{Chunk as Listed-chunk}
 use Rattle.listing.specs.Records.{recordOf}
 use Rattle.cursor.specs.declared.Cursor.{Cursor}
 use Rattle.cursor.specs.Cursors.{firstCursor, Located}
-use Rattle.records.specs.Rows.{Ready}
+use Rattle.room.specs.Room.{Ready}
 use Rattle.records.proofs.RowLaws.{partly}
 use Rattle.listing.proofs.Record as Rec
 use Rattle.listing.proofs.Record.Laws as Rec′
