@@ -14,9 +14,8 @@ use Rattle.tree.specs.Judge.{Found, found, refused, readFile, verdictOf, checkO
 use Rattle.tree.specs.declared.Verdict.{Verdict}
 use Rattle.tree.specs.declared.Verdict.the-variants.{Accepted, Refused as Verdict-refused}
 use Rattle.grammar.specs.Words.{Bytes}
-use Rattle.listing.specs.Records.{recordsOf, countOf}
+use Rattle.listing.specs.Records.{recordsOf}
 use Rattle.listing.specs.Counts.{length-records}
-use Rattle.cursor.specs.Cursors.{firstCursor, Located}
 use Rattle.cursor.specs.Walk.{located-first}
 use Rattle.room.specs.Room.{recordsIn, recordsFor, answerOf, toPut, Ready}
 
