@@ -13,7 +13,7 @@ use Rattle.grammar.specs.Accept as Accept
 use Rattle.listing.specs.declared.Record.{Record}
 use Rattle.listing.specs.declared.Listed.the-variants.{Refused as Listed-refused}
 use Rattle.listing.specs.Records.{recordOf, countOf}
-use Rattle.table.specs.Table.{answerOf}
+use Rattle.room.specs.Room.{answerOf}
 use Rattle.reader.specs.declared.Step.the-variants.{End}
 use Rattle.reader.specs.Reading.{stepAt}
 use Rattle.reader.specs.Agree.{placeOf}

@@ -9,7 +9,7 @@ use Rattle.grammar.specs.Words.{Bytes}
 use Rattle.listing.specs.declared.Record.{Record}
 use Rattle.listing.specs.declared.Listed.the-variants.{Chunk as Listed-chunk}
 use Rattle.listing.specs.Records.{recordOf}
-use Rattle.table.specs.Table.{recordsFor, answerOf}
+use Rattle.room.specs.Room.{recordsFor, answerOf}
 use Rattle.records.specs.Rows.{placed}
 use Rattle.records.specs.Agree.{numbers-agree}
 use Rattle.reader.specs.declared.Step.the-variants.{Chunk as Step-chunk}

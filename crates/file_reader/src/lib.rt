@@ -41,11 +41,9 @@ pub fn next<'a>(r: Reader<'a>) -> Step
 pub fn advanced<'a>(r: Reader<'a>) -> Reader<'a>
     ensures { λ q. ⌜ (q .file ≡ r .entry .file) × (q .place ≡ placeAfter (now (r .entry .file)) (r .entry .place)) ⌝ }
 {
-    let place = place_after(r.file, r.place);
-    Reader {
-        file: r.file,
-        place,
-    }
+    let file = r.file;
+    let place = place_after(file, r.place);
+    Reader { file, place }
 }
 
 // What a new reader gives first.

@@ -23,7 +23,8 @@ use Rattle.cursor.specs.declared.Cursor.{Cursor}
 use Rattle.cursor.specs.Cursors.{recordAt, Located, onwardAt}
 use Rattle.cursor.specs.Walk.{located-record, located-place, located-first, located-onward, onward-number}
 use Rattle.anywhere.specs.Anywhere.{liesAt, readAt, movedAt, located-lies}
-use Rattle.table.specs.Table.{column, recordsFor}
+use Rattle.room.specs.Room.{recordsFor}
+use Rattle.columns.specs.Columns.{column}
 use Rattle.reader.specs.declared.Place.{Place}
 use Rattle.reader.specs.declared.Step.the-variants.{Chunk as Step-chunk, End}
 use Rattle.reader.specs.Reading.{chunksIn, firstPlace, stepIn, stepAt, placeAfter}

@@ -1,4 +1,7 @@
 pub mod RowLaws
 pub mod Locals
 pub mod Callees
+pub mod Filling
 pub mod Turns
+pub mod ByTurns
+pub mod Putting

@@ -1,6 +1,6 @@
 -- The turns of the loop of `put_records`: where one begins, that it can be made, and where the next begins.
 use mathlib.Core.Path.{_≡_, sym, ap, subst, _∙_}
-use Prim.Native.Nat.{ℕ, _+_, _-_, _<_}
+use Prim.Native.Nat.{ℕ, _+_, _-_, _*_, _<_, _≤_, _^_}
 use native.Mathlib.Omega.{arith}
 use native.Mathlib.Numerals.{add-one}
 use mathlib.Core.List.{[], _∷_, List}
@@ -12,7 +12,7 @@ use Rattle.listing.specs.declared.Listed.the-variants.{Chunk as Listed-chunk}
 use Rattle.listing.specs.Records.{recordOf, countOf}
 use Rattle.cursor.specs.declared.Cursor.{Cursor}
 use Rattle.cursor.specs.Cursors.{firstCursor, Located}
-use Rattle.records.specs.Rows.{Ready}
+use Rattle.room.specs.Room.{Ready}
 use Rattle.records.proofs.RowLaws.{partly, placed-length, goes-on, starts}
 use Rattle.cursor.proofs.Cursor as Cur
 
@@ -70,3 +70,13 @@ module _ (s : List ℕ) (n : ℕ) (ys : List Record) where
         numbered = g .1 ∙ ap (λ (k : ℕ). k + 1) (t .numbered);
         put = ap (λ (l : List Record). set l (t .i) r) (t .put) ∙ goes-on s (t .i) r ys (e ∙ ap (recordOf s) (t .numbered)) ∙ ap (λ (k : ℕ). partly s k ys) (sym (add-one (t .i)));
       }
+
+      -- the record's place lies in the table, and its offset and the next number fit a word
+      pub within : n ≤ length ys → t .i < length (t .zs)
+      within enough = omega (arith, small, enough, same-length t)
+
+      pub offset-fits : n ≤ length ys → length ys * 40 < 2 ^ 63 → t .i * 40 < 2 ^ 64
+      offset-fits enough h = omega (arith, h, small, enough)
+
+      pub next-fits : n < 2 ^ 64 → t .i + 1 < 2 ^ 64
+      next-fits h = omega (arith, small, h)

@@ -14,7 +14,8 @@ use Rattle.listing.specs.declared.Record.{Record}
 use Rattle.listing.specs.declared.Listed.the-variants.{Chunk as Listed-chunk}
 use Rattle.listing.specs.Records.{recordsOf, pickRecord, recordIn, recordOf}
 use Rattle.listing.specs.Counts.{length-records}
-use Rattle.table.specs.Table.{column, recordsFor, answerOf}
+use Rattle.room.specs.Room.{recordsFor, answerOf}
+use Rattle.columns.specs.Columns.{column}
 use Rattle.records.specs.Rows.{placed}
 
 -- Each column holds a field of each place of the table, if it did so before.

@@ -5,52 +5,8 @@ ghost use mathlib.Core.Path.{_≡_};
 ghost use Prim.Native.Nat.{_≤_};
 ghost use lib.ListN.{length, take};
 ghost use Rattle.tree.specs.Judge.{readFile, checkOf};
-ghost use Rattle.table.specs.Table.{answerOf, recordsIn, recordsFor};
-ghost use Rattle.records.specs.Rows.{placed, toPut, Ready};
-
-// The answer for a table of m places: the check's, or 13 if the file has more chunks.
-fn answer(s: &[u8], m: usize) -> Verdict
-    ensures { λ r. ⌜ (r ≡ answerOf m (checkOf (now (s .entry)))) × (Ready (now (s .entry)) (toPut r)) ⌝ }
-{
-    let v = tree::check(s);
-    match v {
-        Verdict::Accepted {
-            chunks,
-            end,
-            trailing,
-        } => {
-            if m < chunks {
-                return Verdict::Refused {
-                    number: 13,
-                    place: 0,
-                };
-            }
-            Verdict::Accepted {
-                chunks,
-                end,
-                trailing,
-            }
-        }
-        Verdict::Refused { number, place } => Verdict::Refused { number, place },
-    }
-}
-
-// How many records an answer puts into the table.
-fn to_put(v: Verdict) -> usize
-    ensures { λ r. ⌜ r ≡ toPut v ⌝ }
-{
-    match v {
-        Verdict::Accepted {
-            chunks,
-            end: _,
-            trailing: _,
-        } => chunks,
-        Verdict::Refused {
-            number: _,
-            place: _,
-        } => 0,
-    }
-}
+ghost use Rattle.room.specs.Room.{answerOf, recordsIn, recordsFor, Ready};
+ghost use Rattle.records.specs.Rows.{placed};
 
 // Puts the first n records of a file into a table that has a place for each.
 fn put_records(s: &[u8], table: &mut [Record], n: usize)
@@ -72,7 +28,7 @@ pub fn fill(s: &[u8], table: &mut [Record]) -> Verdict
     ensures { λ r. ⌜ (r ≡ answerOf (length (now (table .entry))) (checkOf (now (s .entry))))
         × (now (table .exit) ≡ placed (recordsFor (length (now (table .entry))) (readFile (now (s .entry)))) (now (table .entry))) ⌝ }
 {
-    let v = answer(s, table.len());
-    put_records(s, table, to_put(v));
+    let v = room::answer(s, table.len());
+    put_records(s, table, room::to_put(v));
     v
 }

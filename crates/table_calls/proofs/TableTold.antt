@@ -1,29 +1,28 @@
--- What is told of a table, once the case of its answer is known, and that the answer is the definition's.
+-- What is told of an answer, by its case; and that what is told of a table, and what it holds, is said of the definition's answer.
 use Prim.Native.Nat.{ℕ}
-use mathlib.Core.Path.{_≡_, sym, _∙_, subst}
+use mathlib.Core.Path.{_≡_, ap, subst, _∙_}
 use mathlib.Core.List.{List}
 use Rattle.told.specs.Told.{OneTold}
 use Rattle.tree.specs.Judge.{checkOf}
 use Rattle.tree.specs.declared.Verdict.{Verdict}
 use Rattle.tree.specs.declared.Verdict.the-variants.{Accepted, Refused}
-use Rattle.table.specs.Table.{answerOf, Filled}
+use Rattle.room.specs.Room.{answerOf}
+use Rattle.table.specs.Table.{Filled}
 use Rattle.table_calls.specs.Numbers.{recordsTold}
+
+pub told-filled : (v : Verdict) (n e t : ℕ) → v ≡ Accepted n e t → _≡_ {A = OneTold} (record { number = 0; place = 0; value = n }) (recordsTold v)
+unfolding recordsTold
+told-filled v n e t i = rw i
+
+pub told-refused : (v : Verdict) (k p : ℕ) → v ≡ Refused k p → _≡_ {A = OneTold} (record { number = k; place = p; value = 0 }) (recordsTold v)
+unfolding recordsTold
+told-refused v k p i = rw i
 
 module _
     (m : ℕ) (s : List ℕ) (v : Verdict) (numbers₀ levels₀ kinds₀ names₀ places₀ sizes₀ numbers levels kinds names places sizes : List ℕ)
-    (h : Filled m s v numbers₀ levels₀ kinds₀ names₀ places₀ sizes₀ numbers levels kinds names places sizes)
   where
-    pub filled : Filled m s (answerOf m (checkOf s)) numbers₀ levels₀ kinds₀ names₀ places₀ sizes₀ numbers levels kinds names places sizes
-    filled = subst (λ (x : Verdict). Filled m s x numbers₀ levels₀ kinds₀ names₀ places₀ sizes₀ numbers levels kinds names places sizes) (h .answer) h
+    abbrev Holds : Verdict → Type 0
+    Holds x = Filled m s x numbers₀ levels₀ kinds₀ names₀ places₀ sizes₀ numbers levels kinds names places sizes
 
-    pub told-filled :
-        (n e t : ℕ) → v ≡ Accepted n e t → _≡_ {A = OneTold} (record { number = 0; place = 0; value = n }) (recordsTold (answerOf m (checkOf s)))
-    unfolding recordsTold
-    told-filled n e t i = rw (sym (h .answer) ∙ i)
-
-    pub told-refused :
-        (k p : ℕ) → v ≡ Refused k p → _≡_ {A = OneTold} (record { number = k; place = p; value = 0 }) (recordsTold (answerOf m (checkOf s)))
-    unfolding recordsTold
-    told-refused k p i = rw (sym (h .answer) ∙ i)
-
-pub ruleset table-told = (filled, told-filled, told-refused)
+    pub table-told : Holds v → (t : OneTold) → t ≡ recordsTold v → (t ≡ recordsTold (answerOf m (checkOf s))) × (Holds (answerOf m (checkOf s)))
+    table-told h t e = (e ∙ ap recordsTold (h .answer), subst Holds (h .answer) h)

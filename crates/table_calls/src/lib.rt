@@ -3,8 +3,37 @@
 use tree::Verdict;
 ghost use mathlib.Core.Path.{_≡_};
 ghost use Rattle.tree.specs.Judge.{checkOf};
-ghost use Rattle.table.specs.Table.{roomOf, answerOf, Filled};
+ghost use Rattle.room.specs.Room.{answerOf};
+ghost use Rattle.table.specs.Table.{roomOf, Filled};
 ghost use Rattle.table_calls.specs.Numbers.{recordsTold};
+
+// An answer as numbers.
+struct Told {
+    number: usize,
+    place: usize,
+    chunks: usize,
+}
+
+fn answer_told(v: Verdict) -> Told
+    ensures { λ r. ⌜ record { number = r .number; place = r .place; value = r .chunks } ≡ recordsTold v ⌝ }
+{
+    match v {
+        Verdict::Accepted {
+            chunks,
+            end: _,
+            trailing: _,
+        } => Told {
+            number: 0,
+            place: 0,
+            chunks,
+        },
+        Verdict::Refused { number, place } => Told {
+            number,
+            place,
+            chunks: 0,
+        },
+    }
+}
 
 // The records of all chunks of a file, in file order.
 #[no_mangle]
@@ -27,21 +56,8 @@ pub extern "C" fn iff_records(
         (now (numbers .entry)) (now (levels .entry)) (now (kinds .entry)) (now (names .entry)) (now (places .entry)) (now (sizes .entry))
         (now (numbers .exit)) (now (levels .exit)) (now (kinds .exit)) (now (names .exit)) (now (places .exit)) (now (sizes .exit)) ⌝ }
 {
-    let v = table::fill_table(file, numbers, levels, kinds, names, places, sizes);
-    match v {
-        Verdict::Accepted {
-            chunks: n,
-            end: _,
-            trailing: _,
-        } => {
-            *place = 0;
-            *chunks = n;
-            0
-        }
-        Verdict::Refused { number, place: p } => {
-            *place = p;
-            *chunks = 0;
-            number
-        }
-    }
+    let told = answer_told(table::fill_table(file, numbers, levels, kinds, names, places, sizes));
+    *place = told.place;
+    *chunks = told.chunks;
+    told.number
 }

@@ -1,16 +1,14 @@
--- `put_records` meets its contract: at each turn the cursor is located, and each column has the fields of the records before it.
+-- `put_records` meets its contract: at each turn the cursor is located, if there is a record to put, and each column has the fields of the records before it.
 use Prim.Native.Nat.{ℕ, _-_, _≤_, _<_}
 use mathlib.Core.Path.{_≡_}
 use mathlib.Core.List.{List}
 use native.Mathlib.Omega.{arith}
 use borrow.Author.Needs.{needs}
-use lib.ListN.{length}
-use Rattle.listing.specs.Records.{countOf}
 use Rattle.cursor.specs.Cursors.{Located}
-use Rattle.table.specs.Table.{numberOf, levelOf, kindNumberOf, nameOf, placeOf, sizeOf}
-use Rattle.table.proofs.TableLaws.{partly, starts, goes-on, ends, same-room, table-laws}
-use Rattle.table.proofs.put_records.Statement.{statement}
-use Rattle.table.proofs.put_records.Tie as tie
+use Rattle.columns.specs.Columns.{numberOf, levelOf, kindNumberOf, nameOf, placeOf, sizeOf}
+use Rattle.columns.proofs.ColumnLaws.{start-located, start-below, turn, partly, starts, goes-on, same-room, at-end}
+use Rattle.columns.proofs.put_records.Statement.{statement}
+use Rattle.columns.proofs.put_records.Tie as tie
 
 -- the columns, each partly filled
 record Columns (s : List ℕ) (n : ℕ) (numbers₀ numbers levels₀ levels kinds₀ kinds names₀ names places₀ places sizes₀ sizes : List ℕ) : Type 0 where
@@ -22,39 +20,41 @@ record Columns (s : List ℕ) (n : ℕ) (numbers₀ numbers levels₀ levels kin
   sizes-filled : sizes ≡ partly sizeOf s n sizes₀
 
 abbrev Inv-loop : tie.InvT-loop
-Inv-loop s chunks numbers₀ levels₀ kinds₀ names₀ places₀ sizes₀ cur₀ numbers levels kinds names places sizes cur =
-    (Located s cur) × (cur .number ≤ chunks) × (Columns s (cur .number) numbers₀ numbers levels₀ levels kinds₀ kinds names₀ names places₀ places sizes₀ sizes)
+Inv-loop s n numbers₀ levels₀ kinds₀ names₀ places₀ sizes₀ cur₀ numbers levels kinds names places sizes cur =
+    (0 < n → Located s cur) × (cur .number ≤ n) × (Columns s (cur .number) numbers₀ numbers levels₀ levels kinds₀ kinds names₀ names places₀ places sizes₀ sizes)
 
 abbrev μ-loop : tie.MeasureT-loop
-μ-loop s chunks numbers₀ levels₀ kinds₀ names₀ places₀ sizes₀ cur₀ numbers levels kinds names places sizes cur =
-    chunks - cur .number
+μ-loop s n numbers₀ levels₀ kinds₀ names₀ places₀ sizes₀ cur₀ numbers levels kinds names places sizes cur = n - cur .number
 
 first-requires : tie.Need-first-requires Inv-loop μ-loop
-first-requires c κs = search (table-laws, needs)
+first-requires c κs = search needs
 
 loop-holds : tie.Need-loop-holds Inv-loop μ-loop
 loop-holds c =
-    let s = c .before .before .before .before .before .before .before .before .args .s .now in (
-      search (table-laws, needs),
-      search (table-laws, needs),
+    let a = c .before .before .before .before .before .before .before .before in
+    let s = a .args .s .now in (
+      start-located s _ (c .first .result) (a .pre .0) (c .first .ensures),
+      start-below (c .first .result) _ (c .first .ensures),
       record {
-        numbers-filled = starts numberOf s (c .first .result) (c .before .before .before .before .before .before .before .before .args .numbers .now) (c .first .ensures);
-        levels-filled = starts levelOf s (c .first .result) (c .before .before .before .before .before .before .before .before .args .levels .now) (c .first .ensures);
-        kinds-filled = starts kindNumberOf s (c .first .result) (c .before .before .before .before .before .before .before .before .args .kinds .now) (c .first .ensures);
-        names-filled = starts nameOf s (c .first .result) (c .before .before .before .before .before .before .before .before .args .names .now) (c .first .ensures);
-        places-filled = starts placeOf s (c .first .result) (c .before .before .before .before .before .before .before .before .args .places .now) (c .first .ensures);
-        sizes-filled = starts sizeOf s (c .first .result) (c .before .before .before .before .before .before .before .before .args .sizes .now) (c .first .ensures);
+        numbers-filled = starts numberOf s (c .first .result) (a .args .numbers .now) (c .first .ensures);
+        levels-filled = starts levelOf s (c .first .result) (a .args .levels .now) (c .first .ensures);
+        kinds-filled = starts kindNumberOf s (c .first .result) (a .args .kinds .now) (c .first .ensures);
+        names-filled = starts nameOf s (c .first .result) (a .args .names .now) (c .first .ensures);
+        places-filled = starts placeOf s (c .first .result) (a .args .places .now) (c .first .ensures);
+        sizes-filled = starts sizeOf s (c .first .result) (a .args .sizes .now) (c .first .ensures);
       },
     )
 
 record-at-requires : tie.Need-record-at-requires Inv-loop μ-loop
-record-at-requires c κs = search (table-laws, needs)
+record-at-requires c κs =
+    let k = c .before .before in
+    turn _ _ (k .loop .cur) (k .before .before .before .before .before .before .before .before .before .pre .0) (k .loop .inv .0) (c .if1 .taken)
 
 put-record-requires : tie.Need-put-record-requires Inv-loop μ-loop
 put-record-requires c κs =
     let k = c .before .before .before .before .before .before .before .before .before in
     let a = k .before .before .before .before .before .before .before .before .before in
-    let more : k .loop .cur .number < a .args .chunks = c .before .before .before .before .before .before .before .if1 .taken in
+    let more : k .loop .cur .number < a .args .n = c .before .before .before .before .before .before .before .if1 .taken in
     let s = a .args .s .now in
     let i = k .loop .cur .number in (
       omega (arith, same-room numberOf s i (a .args .numbers .now) (k .loop .numbers) (k .loop .inv .2 .numbers-filled), a .pre .1 .0),
@@ -68,25 +68,24 @@ put-record-requires c κs =
 advance-requires : tie.Need-advance-requires Inv-loop μ-loop
 advance-requires c κs =
     let k = c .before .before .before .before .before .before .before .before .before .before .before .before .before .before .before .before .before .before .before .before .before .before in
-    let more : k .loop .cur .number < k .before .before .before .before .before .before .before .before .before .args .chunks = c .before .before .before .before .before .before .before .before .before .before .before .before .before .before .before .before .before .before .before .before .if1 .taken in
-    (k .loop .inv .0, omega (arith, k .before .before .before .before .before .before .before .before .before .pre .0 .1))
+    turn _ _ (k .loop .cur) (k .before .before .before .before .before .before .before .before .before .pre .0) (k .loop .inv .0) (c .before .before .before .before .before .before .before .before .before .before .before .before .before .before .before .before .before .before .before .before .if1 .taken)
 
 loop-less : tie.Need-loop-less Inv-loop μ-loop
 loop-less c =
     let k = c .before .before .before .before .before .before .before .before .before .before .before .before .before .before .before .before .before .before .before .before .before .before .before in
-    let more : k .loop .cur .number < k .before .before .before .before .before .before .before .before .before .args .chunks = c .before .before .before .before .before .before .before .before .before .before .before .before .before .before .before .before .before .before .before .before .before .if1 .taken in
+    let more : k .loop .cur .number < k .before .before .before .before .before .before .before .before .before .args .n = c .before .before .before .before .before .before .before .before .before .before .before .before .before .before .before .before .before .before .before .before .before .if1 .taken in
     omega (arith, c .advance .ensures .1)
 
 loop-again : tie.Need-loop-again Inv-loop μ-loop
 loop-again c =
     let k = c .before .before .before .before .before .before .before .before .before .before .before .before .before .before .before .before .before .before .before .before .before .before .before in
     let a = k .before .before .before .before .before .before .before .before .before in
-    let more : k .loop .cur .number < a .args .chunks = c .before .before .before .before .before .before .before .before .before .before .before .before .before .before .before .before .before .before .before .before .before .if1 .taken in
+    let more : k .loop .cur .number < a .args .n = c .before .before .before .before .before .before .before .before .before .before .before .before .before .before .before .before .before .before .before .before .before .if1 .taken in
     let s = a .args .s .now in
     let i = k .loop .cur .number in
     let r = c .before .before .before .before .before .before .before .before .before .before .before .before .before .before .before .before .before .before .before .before .record-at in
     let put = c .before .before .before .before .before .before .before .before .before .before .before .before .before .put-record in (
-      c .advance .ensures .0,
+      λ _. c .advance .ensures .0,
       omega (arith, c .advance .ensures .1),
       record {
         numbers-filled = goes-on numberOf s i (c .advance .result .number) (r .result) (a .args .numbers .now) (k .loop .numbers) _ (r .ensures) (c .advance .ensures .1) (k .loop .inv .2 .numbers-filled) (put .ensures .0);
@@ -133,14 +132,14 @@ returns c =
     let k = c .before .before in
     let a = k .before .before .before .before .before .before .before .before .before in
     let s = a .args .s .now in
-    let left : a .args .chunks ≤ k .loop .cur .number = c .if1 .left in
-    let all : countOf s ≤ k .loop .cur .number = omega (arith, a .pre .0 .1) in (
-      ends numberOf s (k .loop .cur) (a .args .numbers .now) (k .loop .numbers) (k .loop .inv .0) all (k .loop .inv .2 .numbers-filled),
-      ends levelOf s (k .loop .cur) (a .args .levels .now) (k .loop .levels) (k .loop .inv .0) all (k .loop .inv .2 .levels-filled),
-      ends kindNumberOf s (k .loop .cur) (a .args .kinds .now) (k .loop .kinds) (k .loop .inv .0) all (k .loop .inv .2 .kinds-filled),
-      ends nameOf s (k .loop .cur) (a .args .names .now) (k .loop .names) (k .loop .inv .0) all (k .loop .inv .2 .names-filled),
-      ends placeOf s (k .loop .cur) (a .args .places .now) (k .loop .places) (k .loop .inv .0) all (k .loop .inv .2 .places-filled),
-      ends sizeOf s (k .loop .cur) (a .args .sizes .now) (k .loop .sizes) (k .loop .inv .0) all (k .loop .inv .2 .sizes-filled),
+    let left : a .args .n ≤ k .loop .cur .number = c .if1 .left in
+    let all : k .loop .cur .number ≡ a .args .n = omega (arith, k .loop .inv .1) in (
+      at-end numberOf s _ _ (a .args .numbers .now) (k .loop .numbers) all (k .loop .inv .2 .numbers-filled),
+      at-end levelOf s _ _ (a .args .levels .now) (k .loop .levels) all (k .loop .inv .2 .levels-filled),
+      at-end kindNumberOf s _ _ (a .args .kinds .now) (k .loop .kinds) all (k .loop .inv .2 .kinds-filled),
+      at-end nameOf s _ _ (a .args .names .now) (k .loop .names) all (k .loop .inv .2 .names-filled),
+      at-end placeOf s _ _ (a .args .places .now) (k .loop .places) all (k .loop .inv .2 .places-filled),
+      at-end sizeOf s _ _ (a .args .sizes .now) (k .loop .sizes) all (k .loop .inv .2 .sizes-filled),
     )
 
 pub put-records-spec : {M : Type 1} → statement M

@@ -1,8 +1,9 @@
--- `put_record` meets its contract: one store to each column.
+-- `put_record` meets its contract: one store to each column. The number of a kind fits a byte.
 use mathlib.Core.Path.{refl}
 use borrow.Author.Needs.{needs}
-use Rattle.table.proofs.put_record.Statement.{statement}
-use Rattle.table.proofs.put_record.Tie as tie
+use Rattle.columns.proofs.ColumnLaws.{kind-byte}
+use Rattle.columns.proofs.put_record.Statement.{statement}
+use Rattle.columns.proofs.put_record.Tie as tie
 
 mul-numbers : tie.Need-mul-numbers
 mul-numbers c = search needs
@@ -18,6 +19,9 @@ slice-write-levels c = search needs
 
 kind-number-requires : tie.Need-kind-number-requires
 kind-number-requires c κs = search needs
+
+cast-kinds : tie.Need-cast-kinds
+cast-kinds c = record { fits = kind-byte (c .before .before .before .before .before .before .before .args .r .kind) _ (c .kind-number .ensures) }
 
 slice-write-kinds : tie.Need-slice-write-kinds
 slice-write-kinds c = search needs
@@ -70,6 +74,7 @@ put-record-spec =
     mul-levels
     slice-write-levels
     kind-number-requires
+    cast-kinds
     slice-write-kinds
     mul-names
     slice-write-names

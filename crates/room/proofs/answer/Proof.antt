@@ -2,10 +2,9 @@
 use native.Mathlib.Omega.{arith}
 use Rattle.grammar.specs.Words.{Bytes}
 use borrow.Author.Needs.{needs}
-use Rattle.table.proofs.TableLaws.{answer-laws}
-use Rattle.records.proofs.RowLaws.{none-ready}
-use Rattle.records.proofs.answer.Statement.{statement}
-use Rattle.records.proofs.answer.Tie as tie
+use Rattle.room.proofs.RoomLaws.{refused-answer, accepted-ready, short-answer, filled-answer, none-ready}
+use Rattle.room.proofs.answer.Statement.{statement}
+use Rattle.room.proofs.answer.Tie as tie
 
 check-requires : tie.Need-check-requires
 check-requires c κs = search needs
@@ -14,19 +13,25 @@ enum-known-v : tie.Need-enum-known-v
 enum-known-v c = search needs
 
 returns : tie.Need-returns
-returns c = (search (answer-laws, needs), none-ready _)
+returns c =
+    let chk = c .before .before .before .before .check in
+    (short-answer _ (chk .result) (chk .ensures) _ _ _ (c .before .before .v .given .1) _ (c .if1 .taken), none-ready _)
 
 enum-known-v-2 : tie.Need-enum-known-v-2
 enum-known-v-2 c = search needs
 
 returns-2 : tie.Need-returns-2
 returns-2 c =
+    let chk = c .before .before .before .before .check in
+    let is = c .before .before .v .given .1 in
     let k = c .before .before .before .before .before in
     let b : Bytes (k .before .args .s .now) = λ i. omega (arith, k .shared-slice-known .given i) in
-    (search (answer-laws, needs), λ _. (search (answer-laws, needs), search (answer-laws, needs)))
+    (filled-answer _ (chk .result) (chk .ensures) _ _ _ is _ (c .if1 .left), accepted-ready _ (chk .result) (chk .ensures) _ _ _ is b)
 
 returns-3 : tie.Need-returns-3
-returns-3 c = (search (answer-laws, needs), none-ready _)
+returns-3 c =
+    let chk = c .before .before .before .check in
+    (refused-answer _ (chk .result) (chk .ensures) _ _ _ (c .before .v2 .given .1), none-ready _)
 
 pub answer-spec : {M : Type 1} → statement M
 answer-spec =
