@@ -117,3 +117,16 @@ pub header-stored :
     })
     (headerTold a)
 header-stored v a b t e f g h i = rw (toZ-ofZ f, toZ-ofZ g, toZ-ofZ h, toZ-ofZ i) (header-of v a b t e)
+
+pub grab-stored :
+    (v a : PictureAnswer) → v ≡ a → (t : GrabTold) → t ≡ grabTold v → SFits w16 (t .grab .x) → SFits w16 (t .grab .y) →
+    _≡_ {A = GrabTold}
+    (record {
+      number = t .number;
+      place = t .place;
+      grab = record { x = toZ w16 (ofZ w16 (t .grab .x)); y = toZ w16 (ofZ w16 (t .grab .y)) };
+      origin = t .origin;
+      shared = t .shared;
+    })
+    (grabTold a)
+grab-stored v a b t e f g = rw (toZ-ofZ f, toZ-ofZ g) (grab-of v a b t e)

@@ -1,5 +1,4 @@
 -- What is stored is what `sprite_told` tells of the answer of `picture`.
-use borrow.Author.Needs.{needs}
 use Rattle.answers.proofs.Properties.{sprite-of}
 use Rattle.property_calls.proofs.ilbm_sprite.Statement.{statement}
 use Rattle.property_calls.proofs.ilbm_sprite.Tie as tie
@@ -11,7 +10,7 @@ sprite-told-requires : tie.Need-sprite-told-requires
 sprite-told-requires c κs = tt
 
 returns : tie.Need-returns
-returns c = search (sprite-of, needs)
+returns c = sprite-of _ _ (c .before .picture .ensures) _ (c .sprite-told .ensures)
 
 pub ilbm-sprite-spec : {M : Type 1} → statement M
 ilbm-sprite-spec = tie.close (tie.spec picture-requires sprite-told-requires returns)
