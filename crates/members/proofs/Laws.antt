@@ -157,13 +157,9 @@ one-more : (hit : Bool) (d : List ℕ) (rest : List (List ℕ)) → length (pick
 one-more true d rest = omega arith
 one-more false d rest = omega arith
 
--- the place of the first BODY, told from the chunks to come
-abbrev pub Until : List ℕ → ℕ → ℕ → ℕ → Type 0
-Until s e q v = (F : Chunks) × (R : List ℕ) × Holds s q e F R × (q + length (bytes (untilBody F)) ≡ v)
-
--- the first BODY's data, told from the chunks to come
-abbrev pub Seeking : List ℕ → ℕ → ℕ → Option (List ℕ) → Type 0
-Seeking s e q v = (F : Chunks) × (R : List ℕ) × Holds s q e F R × (firstOf (bodiesIn F) ≡ v)
+-- the place v and the data w of the first BODY, told from the chunks to come
+abbrev pub Seeking : List ℕ → ℕ → ℕ → ℕ → Option (List ℕ) → Type 0
+Seeking s e q v w = (F : Chunks) × (R : List ℕ) × Holds s q e F R × (q + length (bytes (untilBody F)) ≡ v) × (firstOf (bodiesIn F) ≡ w)
 
 module _ (s : List ℕ) (e q : ℕ) (m : Sibling) (t : Tells s q e m) where
   pub count-more : (n k v : ℕ) → k ≡ pick (eqb (m .name .code) BODY) 1 0 → Counting s e q n v → Counting s e (m .next) (n + k) v
@@ -181,87 +177,63 @@ module _ (s : List ℕ) (e q : ℕ) (m : Sibling) (t : Tells s q e m) where
           let j : k ≡ 0 = rw (f .0, no-group c BODY (g .0) body-leaf) at i in
           (F, R, f .1, omega arith)
 
-  pub until-more : (v : ℕ) → (m .name .code ≡ BODY → ⊥) → Until s e q v → Until s e (m .next) v
-  unfolding untilBody
-  until-more v i (F, R, h, u) = go F u (t .front F R h) h
+  -- a member that is no BODY is passed
+  seek-more : (v : ℕ) (w : Option (List ℕ)) → (m .name .code ≡ BODY → ⊥) → Seeking s e q v w → Seeking s e (m .next) v w
+  unfolding untilBody bodiesIn
+  seek-more v w i (F, R, h, u, x) = go F u x (t .front F R h) h
     where
       go :
-          (F : Chunks) → q + length (bytes (untilBody F)) ≡ v → Front s e (m .name .code) (m .from) (m .to) (m .next) F R → Holds s q e F R →
-          Until s e (m .next) v
-      go none u f h = absurd f
-      go (leaf c d p F) u f h =
+          (F : Chunks) → q + length (bytes (untilBody F)) ≡ v → firstOf (bodiesIn F) ≡ w →
+          Front s e (m .name .code) (m .from) (m .to) (m .next) F R → Holds s q e F R → Seeking s e (m .next) v w
+      go none u x f h = absurd f
+      go (leaf c d p F) u x f h =
           let j : eqb c BODY ≡ false = ne-eqb c BODY (λ y. i (f .0 ∙ y)) in
-          let w : q + length (bytes (leaf c d p (untilBody F))) ≡ v = rw j at u in
-          (F, R, f .2, omega (arith, length-leaf c d p (untilBody F), length-leaf c d p F, h .ends, f .2 .ends))
-      go (group c x G F) u f h =
-          (F, R, f .1, omega (arith, length-group c x G (untilBody F), length-group c x G F, h .ends, f .1 .ends))
+          let y : q + length (bytes (leaf c d p (untilBody F))) ≡ v = rw j at u in
+          let z : firstOf (bodiesIn F) ≡ w = rw j at x in
+          (F, R, f .2, omega (arith, length-leaf c d p (untilBody F), length-leaf c d p F, h .ends, f .2 .ends), z)
+      go (group c y G F) u x f h =
+          (F, R, f .1, omega (arith, length-group c y G (untilBody F), length-group c y G F, h .ends, f .1 .ends), x)
 
-  pub until-body : (v : ℕ) → m .name .code ≡ BODY → Until s e q v → q ≡ v
-  unfolding untilBody bytes
-  until-body v i (F, R, h, u) = go F u (t .front F R h) (h .regular)
-    where
-      go : (F : Chunks) → q + length (bytes (untilBody F)) ≡ v → Front s e (m .name .code) (m .from) (m .to) (m .next) F R → Regular F → q ≡ v
-      go none u f g = absurd f
-      go (leaf c d p F) u f g =
-          let j : eqb c BODY ≡ true = eq-eqb c BODY (sym (f .0) ∙ i) in
-          let w : q + length (bytes none) ≡ v = rw j at u in
-          omega arith
-      go (group c x G F) u f g = absurd (let j : c ≡ BODY = sym (f .0) ∙ i in let z : _≡_ {A = ℕ} 0 1 = cc (body-leaf) in omega arith)
-
-  pub body-more : (v : Option (List ℕ)) → (m .name .code ≡ BODY → ⊥) → Seeking s e q v → Seeking s e (m .next) v
-  unfolding bodiesIn
-  body-more v i (F, R, h, u) = go F u (t .front F R h)
+  -- a BODY is the first one
+  seek-here : (v : ℕ) (w : Option (List ℕ)) → m .name .code ≡ BODY → Seeking s e q v w → (q ≡ v) × Shows s (Between (m .from) (m .to)) w
+  unfolding untilBody bodiesIn bytes
+  seek-here v w i (F, R, h, u, x) = go F u x (t .front F R h) (h .regular)
     where
       go :
-          (F : Chunks) → firstOf (bodiesIn F) ≡ v → Front s e (m .name .code) (m .from) (m .to) (m .next) F R → Seeking s e (m .next) v
-      go none u f = absurd f
-      go (leaf c d p F) u f =
-          let j : eqb c BODY ≡ false = ne-eqb c BODY (λ y. i (f .0 ∙ y)) in
-          let w : firstOf (bodiesIn F) ≡ v = rw j at u in
-          (F, R, f .2, w)
-      go (group c x G F) u f = (F, R, f .1, u)
-
-  pub body-here : (v : Option (List ℕ)) → m .name .code ≡ BODY → Seeking s e q v → Shows s (Between (m .from) (m .to)) v
-  unfolding bodiesIn
-  body-here v i (F, R, h, u) = go F u (t .front F R h) (h .regular)
-    where
-      go :
-          (F : Chunks) → firstOf (bodiesIn F) ≡ v → Front s e (m .name .code) (m .from) (m .to) (m .next) F R → Regular F →
-          Shows s (Between (m .from) (m .to)) v
-      go none u f g = absurd f
-      go (leaf c d p F) u f g =
+          (F : Chunks) → q + length (bytes (untilBody F)) ≡ v → firstOf (bodiesIn F) ≡ w →
+          Front s e (m .name .code) (m .from) (m .to) (m .next) F R → Regular F → (q ≡ v) × Shows s (Between (m .from) (m .to)) w
+      go none u x f g = absurd f
+      go (leaf c d p F) u x f g =
           let j : eqb c BODY ≡ true = eq-eqb c BODY (sym (f .0) ∙ i) in
-          let w : some d ≡ v = rw j at u in
-          rw (← w) (f .1)
-      go (group c x G F) u f g = absurd (let j : c ≡ BODY = sym (f .0) ∙ i in let z : _≡_ {A = ℕ} 0 1 = cc (body-leaf) in omega arith)
+          let y : q + length (bytes none) ≡ v = rw j at u in
+          let z : some d ≡ w = rw j at x in
+          (omega arith, rw (← z) (f .1))
+      go (group c y G F) u x f g = absurd (let j : c ≡ BODY = sym (f .0) ∙ i in let z : _≡_ {A = ℕ} 0 1 = cc (body-leaf) in omega arith)
 
 pub count-end : (s : List ℕ) (e q n v : ℕ) → e ≤ q → Counting s e q n v → n ≡ v
 unfolding bodiesIn
 count-end s e q n v l (F, R, h, u) = let w : n + length (bodiesIn none) ≡ v = rw (all-read s q e F R l h) at u in omega arith
 
-pub until-end : (s : List ℕ) (e q v : ℕ) → e ≤ q → Until s e q v → q ≡ v
-unfolding untilBody bytes
-until-end s e q v l (F, R, h, u) = let w : q + length (bytes (untilBody none)) ≡ v = rw (all-read s q e F R l h) at u in omega arith
-
-pub body-end : (s : List ℕ) (e q : ℕ) (v : Option (List ℕ)) → e ≤ q → Seeking s e q v → Shows s Nothing v
-unfolding bodiesIn
-body-end s e q v l (F, R, h, u) = let w : firstOf (bodiesIn none) ≡ v = rw (all-read s q e F R l h) at u in rw (← w) tt
+seek-end : (s : List ℕ) (e q v : ℕ) (w : Option (List ℕ)) → e ≤ q → Seeking s e q v w → (q ≡ v) × Shows s Nothing w
+unfolding untilBody bodiesIn bytes
+seek-end s e q v w l (F, R, h, u, x) =
+    let n = all-read s q e F R l h in
+    let y : q + length (bytes (untilBody none)) ≡ v = rw n at u in
+    let z : firstOf (bodiesIn none) ≡ w = rw n at x in
+    (omega arith, rw (← z) tt)
 
 pub row-le : (s : List ℕ) (p e : ℕ) → Row s p e → p ≤ e
 row-le s p e (F, R, h) = omega (arith, h .ends)
 
--- The four loops' invariants, from the place p at which each began: whatever chunks stand there.
+-- The loops' invariants, from the place p at which each began: whatever chunks stand there.
 pub record Looked (s : List ℕ) (p e name q : ℕ) (part : Part) : Type 0 where
   pub at : (F : Chunks) (R : List ℕ) → Holds s p e F R → Looks s e name q part (lastShared name nothing F) (lastSharedAt name p nothing F)
 
 pub record Counted (s : List ℕ) (p e q n : ℕ) : Type 0 where
   pub at : (F : Chunks) (R : List ℕ) → Holds s p e F R → Counting s e q n (length (bodiesIn F))
 
-pub record Stopping (s : List ℕ) (p e q : ℕ) : Type 0 where
-  pub at : (F : Chunks) (R : List ℕ) → Holds s p e F R → Until s e q (p + length (bytes (untilBody F)))
-
 pub record Sought (s : List ℕ) (p e q : ℕ) : Type 0 where
-  pub at : (F : Chunks) (R : List ℕ) → Holds s p e F R → Seeking s e q (firstOf (bodiesIn F))
+  pub at : (F : Chunks) (R : List ℕ) → Holds s p e F R → Seeking s e q (p + length (bytes (untilBody F))) (firstOf (bodiesIn F))
 
 module _ (s : List ℕ) (p e : ℕ) where
   pub looked-start : (name : ℕ) → Looked s p e name p Nothing
@@ -270,11 +242,8 @@ module _ (s : List ℕ) (p e : ℕ) where
   pub counted-start : Counted s p e p 0
   counted-start = record { at = λ F R h. (F, R, h, omega arith) }
 
-  pub stopping-start : Stopping s p e p
-  stopping-start = record { at = λ F R h. (F, R, h, refl) }
-
   pub sought-start : Sought s p e p
-  sought-start = record { at = λ F R h. (F, R, h, refl) }
+  sought-start = record { at = λ F R h. (F, R, h, refl, refl) }
 
   module _ (q : ℕ) (m : Sibling) (t : Tells s q e m) where
     pub looked-more :
@@ -286,17 +255,18 @@ module _ (s : List ℕ) (p e : ℕ) where
     pub counted-more : (n k : ℕ) → k ≡ pick (eqb (m .name .code) BODY) 1 0 → Counted s p e q n → Counted s p e (m .next) (n + k)
     counted-more n k i l = record { at = λ F R h. count-more s e q m t n k (length (bodiesIn F)) i (l .at F R h) }
 
-    pub stopping-more : (m .name .code ≡ BODY → ⊥) → Stopping s p e q → Stopping s p e (m .next)
-    stopping-more i l = record { at = λ F R h. until-more s e q m t (p + length (bytes (untilBody F))) i (l .at F R h) }
-
-    pub stopping-here : m .name .code ≡ BODY → Stopping s p e q → StopsAtBody s p e q
-    stopping-here i l F R h = until-body s e q m t (p + length (bytes (untilBody F))) i (l .at F R h)
-
     pub sought-more : (m .name .code ≡ BODY → ⊥) → Sought s p e q → Sought s p e (m .next)
-    sought-more i l = record { at = λ F R h. body-more s e q m t (firstOf (bodiesIn F)) i (l .at F R h) }
+    sought-more i l = record { at = λ F R h. seek-more s e q m t (p + length (bytes (untilBody F))) (firstOf (bodiesIn F)) i (l .at F R h) }
 
-    pub sought-here : m .name .code ≡ BODY → Sought s p e q → IsBody s p e (Between (m .from) (m .to))
-    sought-here i l F R h = body-here s e q m t (firstOf (bodiesIn F)) i (l .at F R h)
+    module _ (i : m .name .code ≡ BODY) (l : Sought s p e q) where
+      here : (F : Chunks) (R : List ℕ) → Holds s p e F R → (q ≡ p + length (bytes (untilBody F))) × Shows s (Between (m .from) (m .to)) (firstOf (bodiesIn F))
+      here F R h = seek-here s e q m t (p + length (bytes (untilBody F))) (firstOf (bodiesIn F)) i (l .at F R h)
+
+      pub place-here : StopsAtBody s p e q
+      place-here F R h = here F R h .0
+
+      pub data-here : IsBody s p e (Between (m .from) (m .to))
+      data-here F R h = here F R h .1
 
     -- what keeps the loops going
     pub more-room : m .next ≤ e
@@ -322,10 +292,14 @@ module _ (s : List ℕ) (p e : ℕ) where
     pub counted-end : (n : ℕ) → Counted s p e q n → CountsBodies s p e n
     counted-end n k F R h = count-end s e q n (length (bodiesIn F)) l (k .at F R h)
 
-    pub stopping-end : Stopping s p e q → StopsAtBody s p e q
-    stopping-end k F R h = until-end s e q (p + length (bytes (untilBody F))) l (k .at F R h)
+    module _ (k : Sought s p e q) where
+      at-end : (F : Chunks) (R : List ℕ) → Holds s p e F R → (q ≡ p + length (bytes (untilBody F))) × Shows s Nothing (firstOf (bodiesIn F))
+      at-end F R h = seek-end s e q (p + length (bytes (untilBody F))) (firstOf (bodiesIn F)) l (k .at F R h)
 
-    pub sought-end : Sought s p e q → IsBody s p e Nothing
-    sought-end k F R h = body-end s e q (firstOf (bodiesIn F)) l (k .at F R h)
+      pub place-end : StopsAtBody s p e q
+      place-end F R h = at-end F R h .0
 
-pub ruleset loop-laws = (row-le, row-next, looked-start, counted-start, stopping-start, sought-start, looked-more, counted-more, stopping-more, stopping-here, sought-more, sought-here, more-room, more-less, more-count, more-fits)
+      pub data-end : IsBody s p e Nothing
+      data-end F R h = at-end F R h .1
+
+pub ruleset loop-laws = (row-le, row-next, looked-start, counted-start, sought-start, looked-more, counted-more, sought-more, place-here, data-here, more-room, more-less, more-count, more-fits)

@@ -1,6 +1,6 @@
 -- By the cases of the answer: the field is copied, or 0 beside a refusal.
 use borrow.Author.Needs.{needs}
-use Rattle.answers.proofs.Properties.{sprite-shown, sprite-refused}
+use Rattle.answers.specs.Properties.{spriteTold}
 use Rattle.answers.proofs.sprite_told.Statement.{statement}
 use Rattle.answers.proofs.sprite_told.Tie as tie
 
@@ -17,10 +17,12 @@ enum-known-v-2 : tie.Need-enum-known-v-2
 enum-known-v-2 c = search needs
 
 returns : tie.Need-returns
-returns c = search (sprite-shown, needs)
+unfolding spriteTold
+returns c = rw (c .before .before .before .v .given .1, c .before .origin-number .ensures, c .shared-place .ensures)
 
 returns-2 : tie.Need-returns-2
-returns-2 c = search (sprite-refused, needs)
+unfolding spriteTold
+returns-2 c = rw (c .before .v2 .given .1)
 
 pub sprite-told-spec : {M : Type 1} → statement M
 sprite-told-spec =

@@ -11,7 +11,7 @@ sub-if1 : tie.Need-sub-if1
 sub-if1 c = search (body-order, needs)
 
 returns : tie.Need-returns
-returns c = search (line-29, needs)
+returns c = line-29 _ _ _ _ (c .before .before .before .pre .1) _ _ (c .if1 .taken)
 
 header-of-requires : tie.Need-header-of-requires
 header-of-requires c κs = search (bmhd-right, needs)
@@ -20,7 +20,10 @@ cast-w : tie.Need-cast-w
 cast-w c = omega arith
 
 returns-2 : tie.Need-returns-2
-returns-2 c = search (line-28, needs)
+returns-2 c =
+    let h = c .before .before in
+    let e = h .before .before in
+    line-28 _ _ _ _ (e .before .before .before .pre .1) _ _ (e .if1 .left) _ (h .header-of .ensures) (c .if2 .taken)
 
 cast-planes : tie.Need-cast-planes
 cast-planes c = omega arith
@@ -48,13 +51,23 @@ same-length : tie.Need-same-length
 same-length c = search needs
 
 returns-3 : tie.Need-returns-3
-returns-3 c = search (line-next, needs)
+returns-3 c =
+    let r = c .before .before .before .before .before in
+    let n = r .before .before .before .before .before in
+    let h = n .before .before in
+    let e = h .before .before in
+    line-next _ _ _ _ (e .before .before .before .pre .1) _ _ (e .if1 .left) _ (h .header-of .ensures) (n .if2 .left) _ _ (r .scan-row .ensures .0) (r .scan-row .ensures .1) _ (c .before .scanned .given .1)
 
 same-length-2 : tie.Need-same-length-2
 same-length-2 c = search needs
 
 returns-4 : tie.Need-returns-4
-returns-4 c = search (line-fault, needs)
+returns-4 c =
+    let r = c .before .before .before .before .before in
+    let n = r .before .before .before .before .before in
+    let h = n .before .before in
+    let e = h .before .before in
+    line-fault _ _ _ _ (e .before .before .before .pre .1) _ _ (e .if1 .left) _ (h .header-of .ensures) (n .if2 .left) _ _ (r .scan-row .ensures .0) (r .scan-row .ensures .1) _ _ (c .before .scanned2 .given .1)
 
 pub body-line-spec : {M : Type 1} → statement M
 body-line-spec =

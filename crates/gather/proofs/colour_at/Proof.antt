@@ -1,7 +1,8 @@
 -- `colour_at` meets its contract. The loop's invariant: colour is the colour number of the planes from k on; the measure is k.
 use Prim.Native.Nat.{_≤_}
+use native.Mathlib.Omega.{arith}
 use borrow.Author.Needs.{needs}
-use Rattle.gather.proofs.Colours.{Coloured, colouring}
+use Rattle.gather.proofs.Colours.{Coloured, colouring, coloured-more}
 use Rattle.gather.proofs.colour_at.Statement.{statement}
 use Rattle.gather.proofs.colour_at.Tie as tie
 
@@ -45,7 +46,11 @@ loop-less : tie.Need-loop-less Inv-loop μ-loop
 loop-less c = search (colouring, needs)
 
 loop-again : tie.Need-loop-again Inv-loop μ-loop
-loop-again c = search (colouring, needs)
+loop-again c =
+    let t = c .before .before in
+    let l = t .before .loop in
+    let s = t .before .before .before in
+    (omega arith, coloured-more _ _ _ _ (s .pre .0) _ _ (l .inv .1) _ (t .loop-test .taken) (l .inv .0) (s .pre .2) (c .wide .ensures .0))
 
 cast-result : tie.Need-cast-result Inv-loop μ-loop
 cast-result c = search (colouring, needs)

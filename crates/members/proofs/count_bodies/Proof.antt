@@ -3,13 +3,9 @@ use Prim.Native.Nat.{ℕ, _+_, _-_, _≤_}
 use native.Mathlib.Omega.{arith}
 use borrow.Author.Needs.{needs}
 use Rattle.members.specs.Members.{Row}
-use Rattle.members.proofs.Laws.{Looked, Counted, Stopping, Sought, loop-laws, looked-end, counted-end, stopping-end, sought-end}
+use Rattle.members.proofs.Laws.{Counted, loop-laws, counted-end}
 use Rattle.members.proofs.count_bodies.Statement.{statement}
 use Rattle.members.proofs.count_bodies.Tie as tie
-use Rattle.members.proofs.count_bodies.Reads as reads
-use Rattle.members.proofs.count_bodies.Lts as lts
-use Rattle.members.proofs.one_if.Reads as one-if-reads
-use Rattle.members.proofs.sibling_at.Reads as sibling-at-reads
 
 abbrev Inv-loop : tie.InvT-loop
 Inv-loop s p e q₀ n₀ q n = (q ≤ e) × (n ≤ q) × Row s q e × Counted s p e q n

@@ -1,14 +1,11 @@
--- Before each turn the first BODY of the members still to come is that of all. The measure is the bytes left.
-use Prim.Native.Nat.{ℕ, _+_, _-_, _≤_}
+-- Before each turn the first BODY of the members still to come is that of all, with its data. The measure is the bytes left.
+use Prim.Native.Nat.{_-_, _≤_}
 use native.Mathlib.Omega.{arith}
 use borrow.Author.Needs.{needs}
 use Rattle.members.specs.Members.{Row}
-use Rattle.members.proofs.Laws.{Looked, Counted, Stopping, Sought, loop-laws, looked-end, counted-end, stopping-end, sought-end}
+use Rattle.members.proofs.Laws.{Sought, loop-laws, data-end}
 use Rattle.members.proofs.first_body.Statement.{statement}
 use Rattle.members.proofs.first_body.Tie as tie
-use Rattle.members.proofs.first_body.Reads as reads
-use Rattle.members.proofs.first_body.Lts as lts
-use Rattle.members.proofs.sibling_at.Reads as sibling-at-reads
 
 abbrev Inv-loop : tie.InvT-loop
 Inv-loop s p e q₀ q = (q ≤ e) × Row s q e × Sought s p e q
@@ -32,7 +29,7 @@ loop-again : tie.Need-loop-again Inv-loop μ-loop
 loop-again c = search (loop-laws, needs)
 
 returns-2 : tie.Need-returns-2 Inv-loop μ-loop
-returns-2 c = sought-end _ _ _ _ (omega arith) (c .before .loop .inv .2)
+returns-2 c = data-end _ _ _ _ (omega arith) (c .before .loop .inv .2)
 
 pub first-body-spec : {M : Type 1} → statement M
 first-body-spec =

@@ -4,13 +4,9 @@ use Prim.Native.Nat.{ℕ, _+_, _-_, _≤_}
 use native.Mathlib.Omega.{arith}
 use borrow.Author.Needs.{needs}
 use Rattle.members.specs.Members.{Row}
-use Rattle.members.proofs.Laws.{Looked, Counted, Stopping, Sought, loop-laws, looked-end, counted-end, stopping-end, sought-end}
+use Rattle.members.proofs.Laws.{Looked, loop-laws, looked-end}
 use Rattle.members.proofs.last_named.Statement.{statement}
 use Rattle.members.proofs.last_named.Tie as tie
-use Rattle.members.proofs.last_named.Reads as reads
-use Rattle.members.proofs.last_named.Lts as lts
-use Rattle.members.proofs.newer.Reads as newer-reads
-use Rattle.members.proofs.sibling_at.Reads as sibling-at-reads
 
 abbrev Inv-loop : tie.InvT-loop
 Inv-loop s p e name q₀ part₀ q part = (q ≤ e) × Row s q e × Looked s p e (name .code) q part

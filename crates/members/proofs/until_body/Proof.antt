@@ -1,18 +1,15 @@
--- Before each turn the members passed hold no BODY, so the place where the rest stops is where all stop. The measure is the bytes
--- left.
-use Prim.Native.Nat.{ℕ, _+_, _-_, _≤_}
+-- Before each turn the first BODY of the members still to come is that of all, with its place, or there is none and the end is the same.
+-- The measure is the bytes left.
+use Prim.Native.Nat.{_-_, _≤_}
 use native.Mathlib.Omega.{arith}
 use borrow.Author.Needs.{needs}
 use Rattle.members.specs.Members.{Row}
-use Rattle.members.proofs.Laws.{Looked, Counted, Stopping, Sought, loop-laws, looked-end, counted-end, stopping-end, sought-end}
+use Rattle.members.proofs.Laws.{Sought, loop-laws, place-end}
 use Rattle.members.proofs.until_body.Statement.{statement}
 use Rattle.members.proofs.until_body.Tie as tie
-use Rattle.members.proofs.until_body.Reads as reads
-use Rattle.members.proofs.until_body.Lts as lts
-use Rattle.members.proofs.sibling_at.Reads as sibling-at-reads
 
 abbrev Inv-loop : tie.InvT-loop
-Inv-loop s p e q₀ q = (q ≤ e) × Row s q e × Stopping s p e q
+Inv-loop s p e q₀ q = (q ≤ e) × Row s q e × Sought s p e q
 
 abbrev μ-loop : tie.MeasureT-loop
 μ-loop s p e q₀ q = e - q
@@ -33,7 +30,7 @@ loop-again : tie.Need-loop-again Inv-loop μ-loop
 loop-again c = search (loop-laws, needs)
 
 returns-2 : tie.Need-returns-2 Inv-loop μ-loop
-returns-2 c = stopping-end _ _ _ _ (omega arith) (c .before .loop .inv .2)
+returns-2 c = place-end _ _ _ _ (omega arith) (c .before .loop .inv .2)
 
 pub until-body-spec : {M : Type 1} → statement M
 until-body-spec =

@@ -87,7 +87,10 @@ same-length : tie.Need-same-length Inv-loop μ-loop
 same-length c = search needs
 
 returns : tie.Need-returns Inv-loop μ-loop
-returns c = search (count-ends, put-ends, needs)
+returns c =
+    let l = c .before .loop in
+    let left = c .loop-test .left in
+    (count-ends _ _ _ _ left (l .inv .2), put-ends _ _ _ _ _ _ left (l .inv .2) (l .inv .3) (l .inv .4))
 
 pub pack-into-spec : {M : Type 1} → statement M
 pack-into-spec =

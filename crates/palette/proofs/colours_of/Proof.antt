@@ -14,10 +14,13 @@ enum-known-v-2 : tie.Need-enum-known-v-2
 enum-known-v-2 c = search needs
 
 returns : tie.Need-returns
-returns c = search (colours-seen, needs)
+returns c =
+    let v = c .before .before in
+    let seen = v .before .before .view-picture .ensures in
+    colours-seen _ _ _ (seen .0) (seen .1) _ (v .v .given .1)
 
 returns-2 : tie.Need-returns-2
-returns-2 c = search (colours-unseen, needs)
+returns-2 c = colours-unseen _ _ _ (c .before .before .before .view-picture .ensures .0) _ _ (c .before .v2 .given .1)
 
 pub colours-of-spec : {M : Type 1} → statement M
 colours-of-spec =

@@ -11,16 +11,18 @@ enum-known-v : tie.Need-enum-known-v
 enum-known-v c = search needs
 
 picture-from-requires : tie.Need-picture-from-requires
-picture-from-requires c κs = search (seen-judged, needs)
+picture-from-requires c κs = seen-judged _ _ _ (c .before .before .before .view-picture .ensures .0) _ (c .before .v .given .1)
 
 enum-known-v-2 : tie.Need-enum-known-v-2
 enum-known-v-2 c = search needs
 
 returns : tie.Need-returns
-returns c = search (picture-seen, needs)
+returns c =
+    let seen = c .before .before in
+    picture-seen _ _ _ (seen .before .before .view-picture .ensures .0) _ _ (seen .v .given .1) (c .picture-from .ensures)
 
 returns-2 : tie.Need-returns-2
-returns-2 c = search (picture-unseen, needs)
+returns-2 c = picture-unseen _ _ _ (c .before .before .before .view-picture .ensures .0) _ _ (c .before .v2 .given .1)
 
 pub picture-spec : {M : Type 1} → statement M
 picture-spec =

@@ -20,7 +20,12 @@ long-of-requires : tie.Need-long-of-requires
 long-of-requires c κs = search (camg-right, needs)
 
 returns : tie.Need-returns
-returns c = search (picture-told, needs)
+returns c =
+    let word = c .before in
+    let destination = word .before in
+    let grab = destination .before in
+    picture-told _ _ _ _ _ _ _ (grab .before .header-of .ensures) (grab .grab-of .ensures) (destination .destination-of .ensures) (word .word-of .ensures)
+    (c .long-of .ensures)
 
 pub picture-from-spec : {M : Type 1} → statement M
 picture-from-spec =

@@ -1,7 +1,6 @@
 -- `three_here` meets its contract: each way out is one law.
-use Rattle.pieces.proofs.Scan.{threes}
+use Rattle.pieces.proofs.Scan.{three-same, three-other}
 use native.Mathlib.Omega.{arith}
-use borrow.Author.Needs.{needs}
 use Rattle.pieces.proofs.three_here.Statement.{statement}
 use Rattle.pieces.proofs.three_here.Tie as tie
 
@@ -27,10 +26,12 @@ shared-slice-read-result-2 : tie.Need-shared-slice-read-result-2
 shared-slice-read-result-2 c = omega arith
 
 returns : tie.Need-returns
-returns c = search (threes, needs)
+returns c =
+    let then = c .before .before in
+    three-same _ _ (then .before .before .before .pre) (then .if1 .taken)
 
 returns-2 : tie.Need-returns-2
-returns-2 c = search (threes, needs)
+returns-2 c = three-other _ _ (c .before .before .before .pre) (c .if1 .left)
 
 pub three-here-spec : {M : Type 1} → statement M
 three-here-spec =

@@ -1,6 +1,6 @@
 -- What is stored is what `destination_told` tells of the answer of `picture`.
-use borrow.Author.Needs.{needs}
-use Rattle.answers.proofs.Properties.{destination-of}
+use Rattle.answers.specs.Properties.{destinationTold}
+use Rattle.answers.proofs.Properties.{told-of}
 use Rattle.property_calls.proofs.ilbm_dest.Statement.{statement}
 use Rattle.property_calls.proofs.ilbm_dest.Tie as tie
 
@@ -11,7 +11,7 @@ destination-told-requires : tie.Need-destination-told-requires
 destination-told-requires c κs = tt
 
 returns : tie.Need-returns
-returns c = search (destination-of, needs)
+returns c = told-of destinationTold _ _ (c .before .before .picture .ensures) _ (c .before .destination-told .ensures)
 
 pub ilbm-dest-spec : {M : Type 1} → statement M
 ilbm-dest-spec = tie.close (tie.spec picture-requires destination-told-requires returns)

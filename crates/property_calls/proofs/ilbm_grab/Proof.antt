@@ -1,6 +1,5 @@
--- What is stored is what `grab_told` tells of the answer of `picture`.
-use borrow.Author.Needs.{needs}
-use Rattle.answers.proofs.Properties.{grab-of}
+-- What is stored is what `grab_told` tells of the answer of `picture`; the signed fields go through bits, and fit.
+use Rattle.answers.proofs.Properties.{grab-stored}
 use Rattle.property_calls.proofs.ilbm_grab.Statement.{statement}
 use Rattle.property_calls.proofs.ilbm_grab.Tie as tie
 
@@ -11,7 +10,10 @@ grab-told-requires : tie.Need-grab-told-requires
 grab-told-requires c κs = tt
 
 returns : tie.Need-returns
-returns c = search (grab-of, needs)
+returns c =
+    let told = c .before .before .before in
+    let g = c .struct-told2 .given in
+    grab-stored _ _ (told .before .picture .ensures) _ (told .grab-told .ensures) (record { sfits = g .0 .1 }) (record { sfits = g .1 .0 .1 })
 
 pub ilbm-grab-spec : {M : Type 1} → statement M
 ilbm-grab-spec = tie.close (tie.spec picture-requires grab-told-requires returns)

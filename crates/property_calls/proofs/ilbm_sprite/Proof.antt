@@ -1,6 +1,6 @@
 -- What is stored is what `sprite_told` tells of the answer of `picture`.
-use borrow.Author.Needs.{needs}
-use Rattle.answers.proofs.Properties.{sprite-of}
+use Rattle.answers.specs.Properties.{spriteTold}
+use Rattle.answers.proofs.Properties.{told-of}
 use Rattle.property_calls.proofs.ilbm_sprite.Statement.{statement}
 use Rattle.property_calls.proofs.ilbm_sprite.Tie as tie
 
@@ -11,7 +11,7 @@ sprite-told-requires : tie.Need-sprite-told-requires
 sprite-told-requires c κs = tt
 
 returns : tie.Need-returns
-returns c = search (sprite-of, needs)
+returns c = told-of spriteTold _ _ (c .before .picture .ensures) _ (c .sprite-told .ensures)
 
 pub ilbm-sprite-spec : {M : Type 1} → statement M
 ilbm-sprite-spec = tie.close (tie.spec picture-requires sprite-told-requires returns)

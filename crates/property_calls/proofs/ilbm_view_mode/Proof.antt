@@ -1,6 +1,6 @@
 -- What is stored is what `view_mode_told` tells of the answer of `picture`.
-use borrow.Author.Needs.{needs}
-use Rattle.answers.proofs.Properties.{view-mode-of}
+use Rattle.answers.specs.Properties.{viewModeTold}
+use Rattle.answers.proofs.Properties.{told-of}
 use Rattle.property_calls.proofs.ilbm_view_mode.Statement.{statement}
 use Rattle.property_calls.proofs.ilbm_view_mode.Tie as tie
 
@@ -11,7 +11,7 @@ view-mode-told-requires : tie.Need-view-mode-told-requires
 view-mode-told-requires c κs = tt
 
 returns : tie.Need-returns
-returns c = search (view-mode-of, needs)
+returns c = told-of viewModeTold _ _ (c .before .picture .ensures) _ (c .view-mode-told .ensures)
 
 pub ilbm-view-mode-spec : {M : Type 1} → statement M
 ilbm-view-mode-spec = tie.close (tie.spec picture-requires view-mode-told-requires returns)

@@ -20,13 +20,17 @@ same-length : tie.Need-same-length
 same-length c = search needs
 
 returns : tie.Need-returns
-returns c = search (frame-left, needs)
+returns c =
+    let framed = c .before .before .before .before .before .whole-frame in
+    (frame-left _ _ (framed .ensures .0) _ (c .before .v .given .1), framed .ensures .1)
 
 same-length-2 : tie.Need-same-length-2
 same-length-2 c = search needs
 
 returns-2 : tie.Need-returns-2
-returns-2 c = search (frame-refused, needs)
+returns-2 c =
+    let framed = c .before .before .before .before .before .whole-frame in
+    (frame-refused _ _ (framed .ensures .0) _ _ (c .before .v2 .given .1), framed .ensures .1)
 
 pub ilbm-frame-spec : {M : Type 1} → statement M
 ilbm-frame-spec =

@@ -20,13 +20,17 @@ same-length : tie.Need-same-length
 same-length c = search needs
 
 returns : tie.Need-returns
-returns c = search (line-next, needs)
+returns c =
+    let lined = c .before .before .before .before .before .scan-line in
+    (line-next _ _ (lined .ensures .0) _ (c .before .v .given .1), lined .ensures .1)
 
 same-length-2 : tie.Need-same-length-2
 same-length-2 c = search needs
 
 returns-2 : tie.Need-returns-2
-returns-2 c = search (line-refused, needs)
+returns-2 c =
+    let lined = c .before .before .before .before .before .scan-line in
+    (line-refused _ _ (lined .ensures .0) _ _ (c .before .v2 .given .1), lined .ensures .1)
 
 pub ilbm-line-spec : {M : Type 1} → statement M
 ilbm-line-spec =
