@@ -1,6 +1,6 @@
-# For the scripts that prove crates, from the repository's top: where a check writes, and how many run at a time.
+# For the scripts that prove crates, from the repository's top: where a check writes.
 
-# room_in FOLDER: there is room for the files of eight checks, and programs may be run from there.
+# room_in FOLDER: there is room for the files of some checks, up to 200 MB each, and programs may be run from there.
 room_in() {
     [ -w "$1" ] && [ "$(df -Pk "$1" | awk 'NR == 2 { print $4 }')" -gt 4000000 ] && probe=$(mktemp "$1/probe.XXXXXX") || return 1
     runs=0
@@ -13,11 +13,4 @@ room_in() {
 if [ -z "${TMPDIR:-}" ] && room_in /dev/shm; then
     TMPDIR=/dev/shm
     export TMPDIR
-fi
-
-# rt waits for each batch of checks, so with eight in a batch the two processors of a small machine are seldom idle. A check takes up to
-# 1 GB of memory, and its files.
-if [ -z "${RT_JOBS:-}" ]; then
-    RT_JOBS=$(awk '/^MemAvailable:/ { n = int($2 / 1500000); print (n < 1 ? 1 : n > 8 ? 8 : n) }' /proc/meminfo)
-    export RT_JOBS
 fi
