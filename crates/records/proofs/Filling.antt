@@ -92,8 +92,8 @@ module _ {M : Type 1} (𝓤 : URA M) (H : Heap 𝓤) (A : Atoms 𝓤) (W : Given
 
   -- `put_records` for the file, the table x and n records
   module _ (κ κ′ : Lft) (q q′ : Share) (file : RefT (List ℕ)) (x : RefT (List Record)) (n : ℕ) (w : Val) where
-    abbrev Lent : Fml
-    Lent = FileOwn κ file
+    abbrev Borrowed : Fml
+    Borrowed = FileOwn κ file
 
     abbrev Table : Fml
     Table = fsep (MutSlice (named 1) κ′ R .own x (table-val x ∷ [])) ftrue
@@ -106,9 +106,9 @@ module _ {M : Type 1} (𝓤 : URA M) (H : Heap 𝓤) (A : Atoms 𝓤) (W : Given
 
     pub asks-records :
         Is usize n (w ∷ []) → (Ready (file .now) n) × (n ≤ length (x .now)) →
-        ent 𝓤 (sep 𝓤 (A .lft κ q) (sep 𝓤 (sem 𝓤 H A Lent) (sep 𝓤 (sep 𝓤 (A .lft κ′ q′) (sem 𝓤 H A ftrue)) (sem 𝓤 H A Table)))) (sep 𝓤 (PutRecords 𝓤 H A mem run .pre to-records) (sem 𝓤 H A Lent))
+        ent 𝓤 (sep 𝓤 (A .lft κ q) (sep 𝓤 (sem 𝓤 H A Borrowed) (sep 𝓤 (sep 𝓤 (A .lft κ′ q′) (sem 𝓤 H A ftrue)) (sem 𝓤 H A Table)))) (sep 𝓤 (PutRecords 𝓤 H A mem run .pre to-records) (sem 𝓤 H A Borrowed))
     asks-records is-n h =
-        qed W (‵ (flft κ q) ∷ ‵ Lent ∷ ((‵ (flft κ′ q′) ⊛ ‵ ftrue) ⊛ ‵ Table) ∷ []) ∵ move ! (1 ∷ []) $ use1 W (‵ Lent ⊛ ‵ Lent) (twice 𝓤 H A W κ file) $ split ! $
+        qed W (‵ (flft κ q) ∷ ‵ Borrowed ∷ ((‵ (flft κ′ q′) ⊛ ‵ ftrue) ⊛ ‵ Table) ∷ []) ∵ move ! (1 ∷ []) $ use1 W (‵ Borrowed ⊛ ‵ Borrowed) (twice 𝓤 H A W κ file) $ split ! $
         move ! (3 ∷ []) $ split ! $ move ! (4 ∷ 0 ∷ []) $ join ! $ move ! (1 ∷ []) $ fsplit ! $ move ! (1 ∷ []) $
         -- [true; the table; the tokens; the file, twice]
         owned ! usize (Is usize) (uint-makes 𝓤 H A W w64) n _ is-n $ fjoin ! $ move ! (1 ∷ 0 ∷ []) $ fjoin ! $ move ! (2 ∷ 0 ∷ []) $ fjoin ! $ move ! (1 ∷ 0 ∷ []) $
