@@ -1,7 +1,7 @@
 -- `record_by_number` meets its contract: the check's refusal is passed on, and an accepted file has as many records as chunks.
 use native.Mathlib.Omega.{arith}
 use Rattle.grammar.specs.Words.{Bytes}
-use Rattle.lookup.proofs.RecordLaws.{number-laws}
+use Rattle.lookup.proofs.RecordLaws.{file-refused, accepted-start, accepted-more, accepted-beyond}
 use borrow.Author.Needs.{needs}
 use Rattle.lookup.proofs.record_by_number.Statement.{statement}
 use Rattle.lookup.proofs.record_by_number.Tie as tie
@@ -14,9 +14,12 @@ enum-known-v c = search needs
 
 nth-requires : tie.Need-nth-requires
 nth-requires c κs =
-    let k = c .before .before .before .before .before in
-    let b : Bytes (k .before .args .s .now) = λ i. omega (arith, k .shared-slice-known .given i) in
-    search (number-laws, needs)
+    let known = c .before .before in
+    let checked = known .before .before in
+    let b : Bytes (checked .before .before .args .s .now) = λ i. omega (arith, checked .before .shared-slice-known .given i) in (
+      accepted-start _ _ (checked .check .ensures) _ _ _ (known .v .given .1) b,
+      accepted-more _ _ (checked .check .ensures) _ _ _ (known .v .given .1) b _ (c .if1 .taken),
+    )
 
 returns : tie.Need-returns
 returns c = search needs
@@ -26,12 +29,13 @@ enum-known-v-2 c = search needs
 
 returns-2 : tie.Need-returns-2
 returns-2 c =
-    let k = c .before .before .before .before .before in
-    let b : Bytes (k .before .args .s .now) = λ i. omega (arith, k .shared-slice-known .given i) in
-    search (number-laws, needs)
+    let known = c .before .before in
+    let checked = known .before .before in
+    let b : Bytes (checked .before .before .args .s .now) = λ i. omega (arith, checked .before .shared-slice-known .given i) in
+    accepted-beyond _ _ (checked .check .ensures) _ _ _ (known .v .given .1) b _ (c .if1 .left)
 
 returns-3 : tie.Need-returns-3
-returns-3 c = search (number-laws, needs)
+returns-3 c = search (file-refused, needs)
 
 pub record-by-number-spec : {M : Type 1} → statement M
 record-by-number-spec =

@@ -1,6 +1,6 @@
 -- `record_lines` meets its contract: the record at the cursor is that of its number.
 use borrow.Author.Needs.{needs}
-use Rattle.printed.proofs.LineLaws.{line-laws}
+use Rattle.printed.proofs.LineLaws.{lines-at}
 use Rattle.printed.proofs.record_lines.Statement.{statement}
 use Rattle.printed.proofs.record_lines.Tie as tie
 
@@ -14,7 +14,9 @@ same-length : tie.Need-same-length
 same-length c = search needs
 
 returns : tie.Need-returns
-returns c = search (line-laws, needs)
+returns c =
+    let put = c .before .before in
+    (lines-at _ _ _ _ (put .before .before .before .record-at .ensures) (put .put-record .ensures .0 .1), put .put-record .ensures .1)
 
 pub record-lines-spec : {M : Type 1} → statement M
 record-lines-spec = tie.close (tie.spec record-at-requires put-record-requires same-length returns)

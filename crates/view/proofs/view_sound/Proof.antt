@@ -17,7 +17,13 @@ enum-told : tie.Need-enum-told
 enum-told c = search needs
 
 returns : tie.Need-returns
-returns c = search (view-here, placed-here, needs)
+returns c =
+    let found = c .before .before in
+    let sought = found .before .before in
+    let sound = sought .before .before .pre in (
+      view-here _ _ _ sound _ (sought .seek .ensures) _ _ _ (found .spot .given .1) (c .view-form .ensures),
+      placed-here _ _ _ sound _ (sought .seek .ensures) _ _ _ (found .spot .given .1) (c .view-form .ensures),
+    )
 
 returns-2 : tie.Need-returns-2
 returns-2 c = search (view-left, needs)
