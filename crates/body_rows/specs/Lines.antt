@@ -7,7 +7,7 @@ use Rattle.ilbm.specs.declared.LineAnswer.{LineAnswer}
 use Rattle.ilbm.specs.declared.FrameAnswer.{FrameAnswer}
 use Rattle.ilbm.specs.Contents.{Content}
 use Rattle.ilbm.specs.Pictures.{viewed}
-use Rattle.ilbm.specs.Rows.{Read, lineRead, frameRead, lineAnswer, frameAnswer, written}
+use Rattle.ilbm.specs.Rows.{lineRead, frameRead, lineAnswer, frameAnswer, written}
 use Rattle.content.specs.declared.Contents.{Contents}
 use Rattle.content.specs.Held.{ContentsAre}
 

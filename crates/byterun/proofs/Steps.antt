@@ -1,6 +1,6 @@
 -- One law for each way through a turn of a loop over a row: a turn carries out one code, which `row-step` says of the definition.
 use Prim.Native.Nat.{ℕ, _+_, _-_, _^_, _<_, _≤_}
-use mathlib.Core.Path.{_≡_, refl, sym, ap, _∙_}
+use mathlib.Core.Path.{_≡_, refl, sym, _∙_}
 use mathlib.Core.List.{List}
 use lib.ListN.{length, take, drop, replicate}
 use mir.Syntax.{w64}

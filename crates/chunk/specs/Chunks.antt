@@ -1,5 +1,5 @@
 -- Chunks in a row, the bytes that they are written as, and what stands at a place of a file.
-use Prim.Native.Nat.{ℕ, zero, suc, _+_, _*_, _%_}
+use Prim.Native.Nat.{ℕ, _+_, _*_, _%_}
 use mathlib.Core.List.{List, [], _∷_, _++_}
 use lib.ListN.{length, getD}
 use Rattle.name.specs.Name.{byte0, byte1, byte2, byte3}

@@ -1,26 +1,25 @@
 -- Which property counts: the last one before the first BODY, or else the shared PROP's last one.
-use Prim.Native.Nat.{ℕ, zero, suc, _+_, _-_, _≤_, _<_}
+use Prim.Native.Nat.{ℕ, _+_, _-_, _≤_}
 use mathlib.Core.Path.{_≡_, refl, sym, ap, _∙_}
 use mathlib.Core.Bool.{Bool, true, false}
 use mathlib.Core.List.{List, [], _∷_, _++_, append-assoc}
 use mathlib.Core.Option.{Option, some, none as nothing}
 use lib.Dec.{eqb}
-use lib.ListN.{length, drop, length-append}
+use lib.ListN.{length, length-append}
 use mir.Syntax.{w64}
 use mir.Val.{Fits}
 use native.Mathlib.Omega.{arith}
 use Rattle.name.specs.Name.{pick, kindOf}
-use Rattle.chunk.specs.Chunks.{Chunks, none, leaf, group, bytes, putWord, word}
+use Rattle.chunk.specs.Chunks.{Chunks, none, leaf, group, bytes, word}
 use Rattle.rules.specs.Rules.{isGroup}
 use Rattle.grammar.specs.Read.{Regular}
-use Rattle.ilbm.specs.declared.Origin.{Origin}
 use Rattle.ilbm.specs.declared.Origin.the-variants.{Own, Shared, Absent}
-use Rattle.ilbm.specs.Contents.{BODY, BMHD, CMAP, GRAB, DEST, SPRT, CAMG, lastOwn, lastShared, SharedProp, Property, own, shared, absent, fromProp, sharedBy, ownOr, propertyOf, bodiesIn, contentOf}
+use Rattle.ilbm.specs.Contents.{BODY, BMHD, CMAP, GRAB, DEST, SPRT, CAMG, lastOwn, lastShared, SharedProp, sharedBy, propertyOf}
 use Rattle.ilbm.specs.Places.{lastOwnAt, lastSharedAt, orZero, sharedAt, propertyAt}
 use Rattle.members.specs.declared.Part.{Part}
 use Rattle.members.specs.declared.Part.the-variants.{Nothing, Between}
-use Rattle.members.specs.Members.{Holds, Row, Shows, beginOf, fromOf, IsLast, CountsBodies, StopsAtBody, IsBody, untilBody, firstOf}
-use Rattle.locate.specs.Spots.{Opens, ScopeIs, Scoped}
+use Rattle.members.specs.Members.{Holds, Row, Shows, beginOf, fromOf, IsLast, CountsBodies, StopsAtBody, IsBody, untilBody}
+use Rattle.locate.specs.Spots.{ScopeIs, Scoped}
 use Rattle.content.specs.declared.Held.{Held}
 use Rattle.content.specs.declared.Contents.{Contents}
 use Rattle.content.specs.Held.{HeldAt, SharedIs, PropertyIs, ContentIs}

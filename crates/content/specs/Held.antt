@@ -1,16 +1,14 @@
 -- The content of a picture as parts of the file.
-use Prim.Native.Nat.{ℕ, _+_}
+use Prim.Native.Nat.{ℕ}
 use mathlib.Core.Path.{_≡_}
 use mathlib.Core.List.{List}
 use mathlib.Core.Option.{some}
 use lib.ListN.{length}
 use Rattle.chunk.specs.Chunks.{Chunks}
-use Rattle.ilbm.specs.declared.Origin.{Origin}
 use Rattle.ilbm.specs.declared.Origin.the-variants.{Own, Shared, Absent}
 use Rattle.ilbm.specs.Contents.{BMHD, CMAP, GRAB, DEST, SPRT, CAMG, SharedProp, Property, own, shared, absent, sharedBy, propertyOf, Content, contentOf}
 use Rattle.ilbm.specs.Places.{sharedAt, propertyAt}
-use Rattle.members.specs.declared.Part.{Part}
-use Rattle.members.specs.declared.Part.the-variants.{Nothing, Between}
+use Rattle.members.specs.declared.Part.the-variants.{Nothing}
 use Rattle.members.specs.Members.{Holds, Shows, fromOf, firstOf}
 use Rattle.locate.specs.Spots.{ScopeIs}
 use Rattle.content.specs.declared.Held.{Held}

@@ -20,7 +20,6 @@ use Rattle.tree.specs.Judge.{Found, found, refused, readFile, verdictOf, checkO
 use Rattle.grammar.specs.Words.{Bytes}
 use Rattle.flat.specs.Order.{join, following}
 use Rattle.flat.specs.Coming.{Coming, AtLeaf, AtGroup, coming-none, coming-room, coming-further, leaf-here, group-here, Sound, accepted-sound}
-use Rattle.copy.specs.declared.Copied.{Copied}
 use Rattle.copy.specs.declared.Copied.the-variants.{Written, Refused}
 use Rattle.copy.specs.Clean.{zeroPads, cleanBytes, copyOf, copiedInto}
 use Rattle.copy.specs.Pads.{padZeroed}

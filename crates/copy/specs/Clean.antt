@@ -1,6 +1,6 @@
 -- 01 "Clean copy": "The file up to its end, every pad zero, no trailing bytes."
 use Prim.Native.Nat.{ℕ}
-use mathlib.Core.List.{List, [], _∷_, _++_}
+use mathlib.Core.List.{List, _++_}
 use lib.Dec.{ltb}
 use lib.ListN.{length, drop, replicate}
 use Rattle.name.specs.Name.{pick}

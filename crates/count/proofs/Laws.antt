@@ -1,5 +1,5 @@
 -- The pictures among the chunks still to come: each chunk takes itself off, and brings in nothing.
-use Prim.Native.Nat.{ℕ, zero, suc, _+_, _-_, _*_, _/_, _%_, _^_, _≤_, _<_}
+use Prim.Native.Nat.{ℕ, _+_, _-_, _*_, _/_, _≤_, _<_}
 use mathlib.Core.Path.{_≡_, refl, sym, ap, _∙_}
 use mathlib.Core.Bool.{Bool, true, false}
 use mathlib.Core.List.{List, [], _∷_, _++_}
@@ -7,19 +7,18 @@ use lib.Dec.{eqb}
 use lib.ListN.{length, length-append}
 use mir.Syntax.{w64}
 use mir.Val.{Fits}
-use borrow.Author.Tests.{eq-eqb, ne-eqb, eqb-true}
+use borrow.Author.Tests.{eq-eqb, ne-eqb}
 use native.Mathlib.Omega.{arith}
 use Rattle.name.specs.Name.{both, pick, kindOf}
 use Rattle.name.specs.declared.Kind.{Kind}
-use Rattle.chunk.specs.Chunks.{Chunks, none, leaf, group, Chunk, before, bytes, word, nextAt}
+use Rattle.chunk.specs.Chunks.{Chunks, none, leaf, group, Chunk, before, word}
 use Rattle.rules.specs.Rules.{isGroup}
 use Rattle.tree.specs.Judge.{Found, found, refused, readFile, verdictOf, checkOf}
 use Rattle.tree.specs.declared.Verdict.{Verdict}
-use Rattle.tree.specs.declared.Verdict.the-variants.{Accepted, Refused as Verdict-refused}
+use Rattle.tree.specs.declared.Verdict.the-variants.{Refused as Verdict-refused}
 use Rattle.flat.specs.Order.{join, later, following}
-use Rattle.flat.specs.Coming.{Coming, AtLeaf, AtGroup, Sound, coming-none, coming-room, coming-later, coming-further, leaf-here, group-here}
+use Rattle.flat.specs.Coming.{Coming, Sound, coming-none, coming-room, coming-later, coming-further, leaf-here, group-here}
 use Rattle.ilbm.specs.Contents.{FORM, ILBM, SharedProp, contentsFrom, contentsOf}
-use Rattle.count.specs.declared.Counted.{Counted}
 use Rattle.count.specs.declared.Counted.the-variants.{Pictures, Refused}
 use Rattle.count.specs.Count.{countIn, countOf, formAt, Standing}
 

@@ -6,7 +6,7 @@ use rules::is_group;
 use tree::Verdict;
 use tree::check;
 ghost use mathlib.Core.Path.{_≡_};
-ghost use Prim.Native.Nat.{ℕ, _+_, _≤_, _<_};
+ghost use Prim.Native.Nat.{_+_, _<_};
 ghost use Rattle.flat.specs.Order.{following};
 ghost use Rattle.flat.specs.Coming.{Sound};
 ghost use Rattle.count.specs.Count.{countOf, formAt, Standing};

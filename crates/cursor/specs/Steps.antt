@@ -1,6 +1,6 @@
 -- How a place in a file goes on: past a chunk that is no group, into a group, and out of the groups that end where it stands.
 -- In each way what is left of the file's bytes and what is left of its records lose the same chunk.
-use Prim.Native.Nat.{ℕ, zero, suc, _+_, _-_, _≤_, _<_, max}
+use Prim.Native.Nat.{ℕ, suc, _+_, _-_, _≤_, _<_, max}
 use mathlib.Core.Path.{_≡_, refl, sym, ap, ap₂, _∙_, subst}
 use mathlib.Core.Bool.{true, false}
 use mathlib.Core.List.{List, [], _∷_, _++_, append-assoc}

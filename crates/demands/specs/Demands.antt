@@ -5,7 +5,7 @@ use mathlib.Core.List.{List}
 use mathlib.Core.Logic.{_↔_}
 use lib.ListN.{length, take}
 use Rattle.chunk.specs.Chunks.{Chunk, before, none, bytes, count}
-use Rattle.tree.specs.Judge.{found, readFile, checkOf}
+use Rattle.tree.specs.Judge.{checkOf}
 use Rattle.tree.specs.declared.Verdict.the-variants.{Accepted, Refused}
 use Rattle.grammar.specs.Words.{Bytes}
 use Rattle.grammar.specs.Grammar.{ChunkFile}

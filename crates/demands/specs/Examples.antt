@@ -1,11 +1,10 @@
 -- The examples of 01 that are marked to be proved: one table, one statement, by computing.
-use Prim.Native.Nat.{ℕ, _+_}
+use Prim.Native.Nat.{ℕ}
 use mathlib.Core.Path.{_≡_, refl}
 use mathlib.Core.List.{List, [], _∷_}
 use lib.IntN.{pos}
-use lib.ListN.{length}
 use Rattle.name.specs.Name.{wellFormed, versionName, kindOf, typeBytes, reservedName, typeName}
-use Rattle.chunk.specs.Chunks.{word, count, bytes}
+use Rattle.chunk.specs.Chunks.{word, count}
 use Rattle.rules.specs.Rules.{propWithin}
 use Rattle.header.specs.Checks.{groupHeaderOf, headerOf}
 use Rattle.tree.specs.Judge.{run, chunkAt, readFile, checkOf}
@@ -15,9 +14,9 @@ use Rattle.pieces.specs.Pieces.{three, sameFor, plainFor, pieceOf}
 use Rattle.pack.specs.Pack.{packBy, packed}
 use Rattle.ilbm.specs.declared.BitmapHeader.{BitmapHeader}
 use Rattle.ilbm.specs.declared.PictureAnswer.the-variants.{Refused as Picture-refused}
-use Rattle.ilbm.specs.Contents.{lastOwn, lastShared, propertyOf, bodiesIn, propAmong, contentsFrom}
+use Rattle.ilbm.specs.Contents.{lastOwn, propertyOf, bodiesIn, propAmong, contentsFrom}
 use Rattle.ilbm.specs.Pictures.{pictureFault, pickContent, pictureOf}
-use Rattle.ilbm.specs.Rows.{Read, read, rowsFrom, colourBy, coloursFrom, lineFrom}
+use Rattle.ilbm.specs.Rows.{read, rowsFrom, colourBy, coloursFrom, lineFrom}
 
 -- FORM, size 4, ILBM
 abbrev form : List ℕ

@@ -1,6 +1,6 @@
 -- 01 "Listing": "It is given three ways that agree". The table and the reader are each proved to give the record by number.
-use Prim.Native.Nat.{ℕ, _<_, _≤_}
-use mathlib.Core.Path.{_≡_, sym, ap, _∙_}
+use Prim.Native.Nat.{ℕ, _<_}
+use mathlib.Core.Path.{_≡_, ap, _∙_}
 use mathlib.Core.List.{List}
 use lib.ListN.{length, getD}
 use Rattle.tree.specs.Judge.{readFile, checkOf}

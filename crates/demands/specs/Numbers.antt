@@ -1,6 +1,6 @@
 -- The check answers with the numbers 1 to 12 alone: each line of the table has one of them, and the walk passes it on.
 use Prim.Native.Nat.{ℕ, zero, suc, _≤_, _+_, _-_, _%_}
-use mathlib.Core.Path.{_≡_, refl, sym, _∙_}
+use mathlib.Core.Path.{_≡_}
 use mathlib.Core.Bool.{Bool, true, false, not}
 use mathlib.Core.List.{List}
 use lib.Dec.{ltb, eqb}
@@ -12,11 +12,10 @@ use Rattle.rules.specs.declared.Position.{Position}
 use Rattle.rules.specs.declared.Position.the-variants.{Outermost}
 use Rattle.header.specs.declared.Header.{Header}
 use Rattle.header.specs.declared.Header.the-variants.{Bad, Leaf, Group}
-use Rattle.tree.specs.declared.Verdict.{Verdict}
-use Rattle.tree.specs.declared.Verdict.the-variants.{Accepted, Refused}
-use Rattle.chunk.specs.Chunks.{Chunks, none, Chunk, before, word, nextAt, aLeaf, aGroup}
+use Rattle.tree.specs.declared.Verdict.the-variants.{Refused}
+use Rattle.chunk.specs.Chunks.{Chunks, none, Chunk, before, word, nextAt, aGroup}
 use Rattle.rules.specs.Rules.{isGroup, isSection, misplaced, inside, after, groupType, secondProp}
-use Rattle.header.specs.Checks.{groupHeaderOf, sizedHeaderOf, headerOf}
+use Rattle.header.specs.Checks.{groupHeaderOf, headerOf}
 use Rattle.tree.specs.Judge.{Found, found, refused, andThen, run, byHeader, chunkAt, readFile, verdictOf, checkOf}
 
 -- one of 1 to 12

@@ -1,18 +1,16 @@
 -- The refusals 23 and 24, told from the parts of the file that hold the properties.
-use Prim.Native.Nat.{ℕ, zero, suc, _+_, _-_, _%_, _≤_, _<_}
-use mathlib.Core.Path.{_≡_, refl, sym, ap, _∙_}
+use Prim.Native.Nat.{ℕ, _+_, _-_, _%_, _≤_, _<_}
+use mathlib.Core.Path.{_≡_, refl, sym, _∙_}
 use mathlib.Core.Bool.{Bool, true, false, not}
-use mathlib.Core.List.{List, [], _∷_}
+use mathlib.Core.List.{List}
 use mathlib.Core.Option.{some}
-use lib.Dec.{eqb, ltb}
+use lib.Dec.{eqb}
 use lib.ListN.{length}
 use borrow.Author.Tests.{lt-ltb, le-ltb, eq-eqb, ne-eqb}
 use native.Mathlib.Omega.{arith}
-use Rattle.name.specs.Name.{both, either, pick}
 use Rattle.ilbm.specs.declared.BitmapHeader.{BitmapHeader}
 use Rattle.ilbm.specs.Contents.{Property, own, shared, absent, Content}
-use Rattle.ilbm.specs.Pictures.{dataOf, counts, sizeNot, sizeNotTriples, wrongSize, headerFault}
-use Rattle.members.specs.declared.Part.{Part}
+use Rattle.ilbm.specs.Pictures.{dataOf, counts, wrongSize, headerFault}
 use Rattle.members.specs.declared.Part.the-variants.{Nothing, Between}
 use Rattle.members.specs.Members.{Shows}
 use Rattle.content.specs.declared.Held.{Held}

@@ -3,7 +3,7 @@ use ilbm::BitmapHeader;
 use ilbm::Destination;
 use ilbm::HotSpot;
 ghost use mathlib.Core.Path.{_≡_};
-ghost use Prim.Native.Nat.{ℕ, _+_, _*_, _≤_};
+ghost use Prim.Native.Nat.{_+_, _*_, _≤_};
 ghost use lib.ListN.{length};
 ghost use Rattle.ilbm.specs.Pictures.{u16, u32, signed, headerIn, hotSpotIn, destinationIn};
 

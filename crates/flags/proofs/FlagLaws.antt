@@ -10,7 +10,7 @@ use lib.ListN.{length, getD, set, length-set}
 use lib.Seq.{getD-set-same, getD-set-other}
 use borrow.Author.Tests.{le-ltb, eq-eqb, ne-eqb, eqb-true, eqb-false, leb-true, le-leb, lt-leb, ltb-true, ltb-false}
 use native.Mathlib.Omega.{arith}
-use Rattle.name.specs.Name.{both, either, pick}
+use Rattle.name.specs.Name.{both, pick}
 use Rattle.chunk.specs.Chunks.{word, nextAt}
 use Rattle.rules.specs.Rules.{propAt, propWithin, propBefore}
 use Rattle.flags.specs.Classes.{place, digitOf, classOf, slotOf, inClass, FreshIn, Marked}

@@ -5,14 +5,14 @@ use mathlib.Core.Bool.{Bool, true, false}
 use mathlib.Core.List.{List, [], _∷_, _++_}
 use lib.Bits.{bitAnd}
 use lib.Dec.{ltb, eqb}
-use lib.ListN.{length, getD, take, drop, set}
+use lib.ListN.{length, getD, take, drop}
 use lib.Seq.{paste, take-paste}
 use mir.Syntax.{w64}
 use mir.Val.{Fits}
 use borrow.Author.Tests.{ltb-true, ltb-false, eqb-true}
 use native.Mathlib.Omega.{arith}
 use Rattle.name.specs.Name.{pick}
-use Rattle.ilbm.specs.Rows.{bitAt, colourBy, coloursFrom}
+use Rattle.ilbm.specs.Rows.{colourBy, coloursFrom}
 use Rattle.gather.specs.Buffer.{rowsIn}
 use Rattle.gather.specs.Spread.{eight, spreadOf, bytesOf}
 use Rattle.gather.proofs.Colours.{colour-front, row-bit, colour-byte, Gathered}

@@ -1,18 +1,18 @@
 -- Laws of `groupHeaderOf` and `headerOf`: one for each line of 01's table, from the tests that the code has made by then.
-use Prim.Native.Nat.{ℕ, zero, suc, _+_, _-_, _*_, _/_, _%_, _≤_, _<_}
-use mathlib.Core.Path.{_≡_, refl, sym, ap, _∙_}
+use Prim.Native.Nat.{ℕ, _+_, _-_, _*_, _/_, _%_, _≤_, _<_}
+use mathlib.Core.Path.{_≡_, ap, _∙_}
 use mathlib.Core.List.{List}
-use mathlib.Core.Bool.{Bool, true, false, not}
+use mathlib.Core.Bool.{Bool, true, false}
 use borrow.Author.Tests.{lt-ltb, le-ltb, eq-eqb, ne-eqb}
 use native.Mathlib.Omega.{arith}
-use Rattle.name.specs.Name.{pick, wellFormed, versionName, kindOf}
+use Rattle.name.specs.Name.{wellFormed, versionName, kindOf}
 use Rattle.name.specs.declared.Kind.{Kind}
 use Rattle.rules.specs.declared.Position.{Position}
 use Rattle.header.specs.declared.Header.{Header}
 use Rattle.header.specs.declared.Header.the-variants.{Bad, Leaf, Group}
 use Rattle.chunk.specs.Chunks.{word}
 use Rattle.rules.specs.Rules.{isGroup, misplaced, groupType, secondProp}
-use Rattle.header.specs.Checks.{groupHeaderOf, sizedHeaderOf, headerOf, LeafFits, GroupFits, Fitting, Opened}
+use Rattle.header.specs.Checks.{groupHeaderOf, sizedHeaderOf, headerOf, Fitting, Opened}
 
 module _ (levels : ℕ) (s : List ℕ) (from : ℕ) (k : Kind) (z p : ℕ) where
   pub refuse-9 : levels ≡ 0 → Bad 9 ≡ groupHeaderOf levels s from k z p

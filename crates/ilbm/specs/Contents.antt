@@ -1,6 +1,5 @@
 -- 01 "Pictures": which FORMs are pictures, and which properties count for each.
 use Prim.Native.Nat.{ℕ, _+_}
-use mathlib.Core.Bool.{Bool, true, false}
 use mathlib.Core.List.{List, [], _∷_, _++_}
 use mathlib.Core.Option.{Option, some, none as nothing}
 use lib.Dec.{eqb}

@@ -1,6 +1,6 @@
 -- 01 "Rows": the scan line and the frame of a picture.
 use Prim.Native.Nat.{ℕ, zero, suc, _+_, _-_, _*_, _/_, _%_, _^_}
-use mathlib.Core.Bool.{Bool, true, false, not}
+use mathlib.Core.Bool.{not}
 use mathlib.Core.List.{List, [], _∷_, _++_}
 use lib.Dec.{ltb, eqb}
 use lib.ListN.{length, getD, take}
@@ -11,7 +11,6 @@ use Rattle.ilbm.specs.declared.LineAnswer.{LineAnswer}
 use Rattle.ilbm.specs.declared.LineAnswer.the-variants.{Next, Refused}
 use Rattle.ilbm.specs.declared.FrameAnswer.{FrameAnswer}
 use Rattle.ilbm.specs.declared.FrameAnswer.the-variants.{Leftover, Refused as Frame-refused}
-use Rattle.ilbm.specs.Contents.{Content}
 use Rattle.ilbm.specs.Pictures.{Viewed, viewed, unseen, viewOf, dataOf, headerIn}
 
 -- "A plane row is 2 * floor((w+15)/16) bytes."

@@ -1,24 +1,24 @@
 -- What a group in a row of chunks shows of itself, and which PROP its members share.
-use Prim.Native.Nat.{ℕ, zero, suc, _+_, _-_, _*_, _/_, _%_, _^_, _≤_, _<_}
+use Prim.Native.Nat.{ℕ, _+_, _-_, _*_, _≤_, _<_}
 use mathlib.Core.Path.{_≡_, refl, sym, ap, _∙_}
 use mathlib.Core.Bool.{Bool, true, false}
 use mathlib.Core.List.{List, [], _∷_, _++_}
 use lib.Dec.{eqb}
-use lib.ListN.{length, drop}
+use lib.ListN.{length}
 use mir.Syntax.{w64}
 use mir.Val.{Fits}
-use borrow.Author.Tests.{eq-eqb, ne-eqb, eqb-true}
+use borrow.Author.Tests.{eq-eqb, ne-eqb}
 use native.Mathlib.Omega.{arith}
-use Rattle.name.specs.Name.{both, pick, kindOf}
+use Rattle.name.specs.Name.{both, kindOf}
 use Rattle.name.specs.declared.Kind.{Kind}
 use Rattle.chunk.specs.Chunks.{Chunks, none, leaf, group, bytes, word}
 use Rattle.rules.specs.Rules.{isGroup}
-use Rattle.grammar.specs.Read.{Regular, length-leaf, length-group, leaf-name, group-fits, group-name, group-size, group-type, group-members}
+use Rattle.grammar.specs.Read.{length-leaf, length-group, leaf-name, group-fits, group-name, group-size, group-type, group-members}
 use Rattle.ilbm.specs.Contents.{LIST, PROP, ILBM, SharedProp, propAmong, scopeInside}
 use Rattle.members.specs.declared.Sibling.{Sibling}
 use Rattle.members.specs.Members.{Holds, Row, Front, Tells}
 use Rattle.members.proofs.Laws.{row-room, row-next, row-le, more-room, more-less}
-use Rattle.locate.specs.Spots.{Opens, ScopeIs, Scoped, groupIs, Shares, ScopesInside, IsGroupOf, GroupAt}
+use Rattle.locate.specs.Spots.{Opens, ScopeIs, groupIs, Shares, ScopesInside, IsGroupOf, GroupAt}
 
 pub is-a-hit : (n t name kind : ℕ) → n ≡ name → eqb t kind ≡ both (eqb n name) (eqb t kind)
 is-a-hit n t name kind i = simp (eq-eqb _ _ i)

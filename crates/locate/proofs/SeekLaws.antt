@@ -7,7 +7,7 @@ use lib.Dec.{eqb}
 use lib.ListN.{length, drop}
 use native.Mathlib.Omega.{arith}
 use native.Mathlib.Numerals.{sub-one}
-use Rattle.name.specs.Name.{both, pick, kindOf}
+use Rattle.name.specs.Name.{both, kindOf}
 use Rattle.name.specs.declared.Kind.{Kind}
 use Rattle.chunk.specs.Chunks.{Chunks, none, leaf, group, bytes, word}
 use Rattle.rules.specs.Rules.{isGroup}
@@ -15,10 +15,10 @@ use Rattle.grammar.specs.Read.{length-leaf, length-group}
 use Rattle.ilbm.specs.Contents.{FORM, ILBM, SharedProp, scopeInside}
 use Rattle.ilbm.specs.Places.{PictureForm, formAt, formsFrom}
 use Rattle.members.specs.declared.Sibling.{Sibling}
-use Rattle.members.specs.Members.{Holds, Row, Front, Tells}
+use Rattle.members.specs.Members.{Holds, Front, Tells}
 use Rattle.locate.specs.declared.Spot.{Spot}
 use Rattle.locate.specs.declared.Spot.the-variants.{Here, Left}
-use Rattle.locate.specs.Spots.{Opens, ScopeIs, Scoped, Spotted, groupIs, formsHere, Seeks, Visits, Enters, ScopesInside, IsGroupOf, GroupAt}
+use Rattle.locate.specs.Spots.{ScopeIs, Scoped, Spotted, groupIs, formsHere, Seeks, Visits, Enters, ScopesInside, IsGroupOf, GroupAt}
 use Rattle.locate.proofs.Laws.{never, empty, inner-holds, opens-here, name-here, leaf-no-group, leaf-known}
 use Rattle.members.proofs.Laws.{row-next, row-le, more-room, more-less}
 

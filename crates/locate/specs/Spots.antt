@@ -1,13 +1,13 @@
 -- Where a picture of a given number stands in a sound file, and the PROP that it may share.
-use Prim.Native.Nat.{ℕ, zero, suc, _+_, _≤_, _<_}
+use Prim.Native.Nat.{ℕ, _+_, _<_}
 use mathlib.Core.Path.{_≡_}
 use mathlib.Core.Bool.{Bool, true, false}
 use mathlib.Core.List.{List, [], _∷_, _++_}
 use lib.Dec.{eqb}
-use lib.ListN.{length, drop}
+use lib.ListN.{drop}
 use Rattle.name.specs.Name.{both, pick, kindOf}
 use Rattle.rules.specs.Rules.{isGroup}
-use Rattle.chunk.specs.Chunks.{Chunks, none, leaf, group, bytes, word}
+use Rattle.chunk.specs.Chunks.{Chunks, none, leaf, group, word}
 use Rattle.ilbm.specs.Contents.{FORM, ILBM, SharedProp, propAmong, scopeInside}
 use Rattle.ilbm.specs.Places.{PictureForm, formAt, formsFrom}
 use Rattle.members.specs.Members.{Holds, Row}

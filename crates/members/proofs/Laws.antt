@@ -1,12 +1,11 @@
 -- What one turn of a loop over members does: the first chunk is read, and the loop goes on with those after it.
-use Prim.Native.Nat.{ℕ, zero, suc, _+_, _-_, _*_, _/_, _%_, _^_, _≤_, _<_}
-use mathlib.Core.Path.{_≡_, refl, sym, ap, _∙_}
+use Prim.Native.Nat.{ℕ, _+_, _-_, _*_, _/_, _^_, _≤_, _<_}
+use mathlib.Core.Path.{_≡_, refl, sym, _∙_}
 use mathlib.Core.Bool.{Bool, true, false}
 use mathlib.Core.List.{List, [], _∷_, _++_}
 use mathlib.Core.Option.{Option, some, none as nothing}
 use lib.Dec.{eqb}
-use lib.ListN.{length, drop, length-append}
-use lib.Seq.{slice}
+use lib.ListN.{length}
 use mir.Syntax.{w64}
 use mir.Val.{Fits}
 use borrow.Author.Tests.{eq-eqb, ne-eqb}
@@ -14,7 +13,7 @@ use native.Mathlib.Omega.{arith}
 use Rattle.name.specs.Name.{pick, kindOf}
 use Rattle.chunk.specs.Chunks.{Chunks, none, leaf, group, bytes, word, nextAt}
 use Rattle.rules.specs.Rules.{isGroup}
-use Rattle.grammar.specs.Read.{Regular, length-leaf, length-group, leaf-fits, leaf-name, leaf-size, leaf-data, leaf-next, leaf-rest, group-fits, group-name, group-size, group-next, group-rest}
+use Rattle.grammar.specs.Read.{Regular, length-leaf, length-group, leaf-fits, leaf-name, leaf-size, leaf-data, leaf-next, leaf-rest, group-name, group-next, group-rest}
 use Rattle.ilbm.specs.Contents.{BODY, lastShared, bodiesIn}
 use Rattle.ilbm.specs.Places.{lastSharedAt}
 use Rattle.members.specs.declared.Sibling.{Sibling}

@@ -1,17 +1,15 @@
 -- The members of a group in a sound file, as a loop over places meets them, and what is looked up among them.
-use Prim.Native.Nat.{ℕ, zero, suc, _+_, _≤_, _<_}
-use mathlib.Core.Path.{_≡_, refl}
-use mathlib.Core.Bool.{Bool, true, false}
+use Prim.Native.Nat.{ℕ, _+_, _≤_, _<_}
+use mathlib.Core.Path.{_≡_}
 use mathlib.Core.List.{List, [], _∷_, _++_}
 use mathlib.Core.Option.{Option, some, none as nothing}
 use lib.Dec.{eqb}
 use lib.ListN.{length, drop}
 use lib.Seq.{slice}
-use Rattle.name.specs.Name.{pick, kindOf}
+use Rattle.name.specs.Name.{pick}
 use Rattle.chunk.specs.Chunks.{Chunks, none, leaf, group, bytes}
-use Rattle.rules.specs.Rules.{isGroup}
 use Rattle.grammar.specs.Read.{Regular}
-use Rattle.ilbm.specs.Contents.{BODY, lastOwn, lastShared, bodiesIn}
+use Rattle.ilbm.specs.Contents.{BODY, lastShared, bodiesIn}
 use Rattle.ilbm.specs.Places.{lastSharedAt, orZero}
 use Rattle.members.specs.declared.Sibling.{Sibling}
 use Rattle.members.specs.declared.Part.{Part}

@@ -3,7 +3,6 @@ use members::Part;
 use view::View;
 use view::view_picture;
 ghost use mathlib.Core.Path.{_≡_};
-ghost use Prim.Native.Nat.{ℕ};
 ghost use Rattle.ilbm.specs.Palette.{paletteAnswer, paletteSource, pointer};
 ghost use Rattle.palette.specs.Parts.{PartIn, partOr, partAt, ColoursAre};
 

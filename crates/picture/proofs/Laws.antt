@@ -1,28 +1,25 @@
 -- The fields of a property are read from its part of the file; an absent property's fields are those of no bytes, all 0.
-use Prim.Native.Nat.{ℕ, zero, suc, _+_, _-_, _%_, _≤_, _<_}
+use Prim.Native.Nat.{ℕ, _+_, _-_, _≤_}
 use mathlib.Core.Path.{_≡_, refl, sym, ap, _∙_}
 use mathlib.Core.Bool.{Bool, true, false, not}
-use mathlib.Core.List.{List, [], _∷_, _++_}
+use mathlib.Core.List.{List, []}
 use lib.Dec.{eqb, ltb}
 use lib.ListN.{length, take, drop}
-use lib.IntN.{ℤ, pos}
-use borrow.Author.Tests.{eqb-true, eqb-false, eq-eqb, ne-eqb}
+use lib.IntN.{pos}
+use borrow.Author.Tests.{eqb-true}
 use native.Mathlib.Omega.{arith}
-use Rattle.name.specs.Name.{both, either, pick}
+use Rattle.name.specs.Name.{either, pick}
 use Rattle.ilbm.specs.declared.BitmapHeader.{BitmapHeader}
 use Rattle.ilbm.specs.declared.HotSpot.{HotSpot}
 use Rattle.ilbm.specs.declared.Destination.{Destination}
-use Rattle.ilbm.specs.declared.Origin.{Origin}
 use Rattle.ilbm.specs.declared.Picture.{Picture}
-use Rattle.ilbm.specs.declared.PictureAnswer.{PictureAnswer}
 use Rattle.ilbm.specs.declared.PictureAnswer.the-variants.{Shown, Refused}
 use Rattle.ilbm.specs.Contents.{Property, own, shared, absent, Content}
-use Rattle.ilbm.specs.Pictures.{u16, u32, headerIn, hotSpotIn, destinationIn, dataOf, originOf, counts, sizeNot, sizeNotTriples, wrongSize, headerFault, pictureFault, pictureFrom, Viewed, viewed, unseen, viewOf, pictureOf, pictureAnswer}
-use Rattle.members.specs.declared.Part.{Part}
+use Rattle.ilbm.specs.Pictures.{u16, u32, headerIn, hotSpotIn, destinationIn, dataOf, originOf, counts, sizeNot, sizeNotTriples, wrongSize, headerFault, pictureFault, pictureFrom, unseen, viewOf, pictureOf}
 use Rattle.members.specs.declared.Part.the-variants.{Nothing, Between}
 use Rattle.content.specs.declared.Held.{Held}
 use Rattle.content.specs.declared.Contents.{Contents}
-use Rattle.content.specs.Held.{HeldIs, ContentsAre}
+use Rattle.content.specs.Held.{HeldIs}
 use Rattle.view.specs.declared.View.{View}
 use Rattle.view.specs.declared.View.the-variants.{Seen, Unseen}
 use Rattle.view.specs.Seen.{ViewIs}

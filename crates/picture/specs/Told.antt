@@ -1,7 +1,7 @@
 -- What the properties of a picture that is not refused tell.
 use Prim.Native.Nat.{ℕ}
 use mathlib.Core.Path.{_≡_}
-use mathlib.Core.Bool.{Bool, false}
+use mathlib.Core.Bool.{false}
 use mathlib.Core.List.{List}
 use Rattle.ilbm.specs.declared.HotSpot.{HotSpot}
 use Rattle.ilbm.specs.declared.Destination.{Destination}

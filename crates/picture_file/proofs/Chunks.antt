@@ -1,7 +1,7 @@
 -- The chunks of the file: each is put by a few stores or copies, one behind the other.
-use Prim.Native.Nat.{ℕ, zero, suc, _+_, _-_, _*_, _/_, _%_, _≤_, _<_}
+use Prim.Native.Nat.{ℕ, zero, suc, _+_, _-_, _/_, _%_, _≤_, _<_}
 use mathlib.Core.Path.{_≡_, refl, sym, ap, _∙_}
-use mathlib.Core.List.{List, [], _∷_, _++_, append-assoc, append-nil}
+use mathlib.Core.List.{List, [], _∷_, _++_, append-assoc}
 use lib.ListN.{length, take, drop, set, replicate, length-append, length-replicate}
 use lib.Seq.{paste, take-all}
 use borrow.Author.Tests.{eq-eqb, ne-eqb}
@@ -11,9 +11,9 @@ use Rattle.chunk.specs.Chunks.{putWord}
 use Rattle.ilbm.specs.declared.BitmapHeader.{BitmapHeader}
 use Rattle.ilbm.specs.Contents.{ILBM, BMHD, CMAP}
 use Rattle.planes.specs.Put.{put}
-use Rattle.picture_file.specs.Parts.{chunkHead, chunkBytes, paletteChunk, typeAndHeader, paletteSize, header-length}
+use Rattle.picture_file.specs.Parts.{chunkHead, paletteChunk, typeAndHeader, paletteSize, header-length}
 use Rattle.picture_file.specs.File.{headerBytes, unsigned}
-use Rattle.planes.proofs.Buffers.{put-none, put-next, put-put, put-length}
+use Rattle.planes.proofs.Buffers.{put-none, put-next, put-put}
 
 -- a copy of all of a slice
 paste-put : (out src : List ℕ) (at n : ℕ) → length src ≡ n → paste out at src n ≡ put out at src

@@ -1,9 +1,9 @@
 -- The parts of the written file in their order, and their lengths: what the code settles before it writes, and what it writes.
-use Prim.Native.Nat.{ℕ, _+_, _*_, _%_, _^_, _≤_, _<_}
-use mathlib.Core.Path.{_≡_, refl, sym, ap, _∙_}
+use Prim.Native.Nat.{ℕ, _+_, _%_}
+use mathlib.Core.Path.{_≡_, refl, _∙_}
 use mathlib.Core.List.{List, [], _∷_, _++_, append-assoc, append-nil}
 use lib.Dec.{eqb}
-use lib.ListN.{length, take, drop, length-append, length-replicate}
+use lib.ListN.{length, length-append, length-replicate}
 use borrow.Author.Tests.{ne-eqb}
 use native.Mathlib.Omega.{arith}
 use Rattle.name.specs.Name.{pick}

@@ -1,7 +1,6 @@
 -- 01 "Examples": FORM, size 4, ILBM prints these twelve lines; FOR1, size 4, ILBM is refused with 3 at 0.
-use Prim.Native.Nat.{ℕ}
 use mathlib.Core.Path.{_≡_, refl}
-use mathlib.Core.List.{List, [], _∷_, _++_}
+use mathlib.Core.List.{[], _∷_, _++_}
 use Rattle.name.specs.Name.{wellFormed, versionName, typeName, typeBytes, reservedName, kindOf}
 use Rattle.chunk.specs.Chunks.{word, bytes, count}
 use Rattle.header.specs.Checks.{headerOf, groupHeaderOf}

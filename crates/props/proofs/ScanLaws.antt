@@ -8,7 +8,7 @@ use borrow.Author.Tests.{lt-ltb, le-ltb}
 use native.Mathlib.Omega.{arith}
 use Rattle.name.specs.Name.{both}
 use Rattle.chunk.specs.Chunks.{word, nextAt}
-use Rattle.rules.specs.Rules.{propAt, propWithin, propBefore}
+use Rattle.rules.specs.Rules.{propAt, propWithin}
 
 pub prop-at : (s : List ℕ) (p t : ℕ) {a b : ℕ} → a ≡ word s p → b ≡ word s (p + 8) → both (eqb a 0x50524F50) (eqb b t) ≡ propAt s p t
 prop-at s p t e f = λ i. both (eqb (e i) 0x50524F50) (eqb (f i) t)

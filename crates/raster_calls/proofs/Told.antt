@@ -1,6 +1,6 @@
 -- What is told of a scan line and of a frame, once its case is known.
 use Prim.Native.Nat.{ℕ}
-use mathlib.Core.Path.{_≡_, refl, sym, ap, _∙_}
+use mathlib.Core.Path.{_≡_, sym, _∙_}
 use Rattle.ilbm.specs.declared.LineAnswer.{LineAnswer}
 use Rattle.ilbm.specs.declared.LineAnswer.the-variants.{Next, Refused}
 use Rattle.ilbm.specs.declared.FrameAnswer.{FrameAnswer}

@@ -1,5 +1,4 @@
 -- The numbers told for a scan line and for a frame.
-use Prim.Native.Nat.{ℕ}
 use Rattle.ilbm.specs.declared.LineAnswer.{LineAnswer}
 use Rattle.ilbm.specs.declared.LineAnswer.the-variants.{Next, Refused}
 use Rattle.ilbm.specs.declared.FrameAnswer.{FrameAnswer}

@@ -1,8 +1,8 @@
 -- The rows, lines and the frame are read back from a BODY as they were written into it: each row ends where the next one starts.
-use Prim.Native.Nat.{ℕ, zero, suc, _+_, _*_, _^_, _≤_, _<_}
-use mathlib.Core.Path.{_≡_, refl, sym, ap, _∙_}
+use Prim.Native.Nat.{ℕ, zero, suc, _+_, _*_, _^_}
+use mathlib.Core.Path.{_≡_, sym, _∙_}
 use mathlib.Core.Bool.{false}
-use mathlib.Core.List.{List, [], _∷_, _++_, append-assoc, append-nil}
+use mathlib.Core.List.{List, [], _∷_, _++_, append-assoc}
 use lib.Dec.{eqb}
 use lib.ListN.{length, take, drop, length-append, length-drop, take-append-drop}
 use lib.Seq.{length-take-le, take-all}
@@ -11,7 +11,7 @@ use native.Mathlib.Omega.{arith}
 use Rattle.byterun.specs.ByteRun.{filled, rowOf}
 use Rattle.pack.specs.Written.{writtenRow, written-reads}
 use Rattle.ilbm.specs.declared.BitmapHeader.{BitmapHeader}
-use Rattle.ilbm.specs.Rows.{Read, read, thenRead, rowRead, rowsFrom, rowLength, rowsInLine, coloursFrom, lineFrom, linesFrom}
+use Rattle.ilbm.specs.Rows.{read, rowsFrom, rowLength, lineFrom, linesFrom}
 use Rattle.planes.specs.Planes.{planeRow}
 use Rattle.body.specs.Body.{lineRows, lineBytes, bodyLines}
 use Rattle.roundtrip.specs.Planes.{row-length, planeRows, rows-count, Below, below-take, below-drop, colours-back}

@@ -1,25 +1,24 @@
 -- "Reading back, with an empty default palette, gives the same fields but pad1, the same palette and frame." For every header, palette,
 -- frame and buffer that the writer does not refuse, of the file that it leaves in the buffer.
-use Prim.Native.Nat.{ℕ, zero, suc, _+_, _-_, _*_}
-use mathlib.Core.Path.{_≡_, refl, sym, ap, _∙_}
-use mathlib.Core.List.{List, [], _∷_, _++_, append-nil}
+use Prim.Native.Nat.{ℕ, zero, suc, _-_, _*_}
+use mathlib.Core.Path.{_≡_, refl, ap, _∙_}
+use mathlib.Core.List.{List, [], append-nil}
 use lib.ListN.{length, take, drop}
 use lib.Seq.{take-at}
 use borrow.Author.Tests.{eq-eqb}
 use native.Mathlib.Nat.{mul-comm, zero-add}
 use native.Mathlib.Omega.{arith}
 use Rattle.tree.specs.declared.Verdict.the-variants.{Accepted}
-use Rattle.chunk.specs.Chunks.{Chunk}
-use Rattle.tree.specs.Judge.{Found, found, readFile, checkOf}
+use Rattle.tree.specs.Judge.{found, readFile, checkOf}
 use Rattle.ilbm.specs.declared.BitmapHeader.{BitmapHeader}
 use Rattle.ilbm.specs.declared.PictureAnswer.the-variants.{Shown}
-use Rattle.ilbm.specs.Contents.{Content, contentsOf}
-use Rattle.ilbm.specs.Pictures.{Viewed, viewed, unseen, viewIn, viewOf, pickContent, headerIn, pictureAnswer, pictureOf, paletteBytes, paletteOf}
-use Rattle.ilbm.specs.Rows.{Read, read, frameRead, linesFrom, leftover, frameOf}
+use Rattle.ilbm.specs.Contents.{contentsOf}
+use Rattle.ilbm.specs.Pictures.{Viewed, viewed, unseen, viewOf, pickContent, pictureAnswer, pictureOf, paletteBytes, paletteOf}
+use Rattle.ilbm.specs.Rows.{read, frameRead, linesFrom, frameOf}
 use Rattle.writer.specs.declared.WriteAnswer.{WriteAnswer}
 use Rattle.writer.specs.declared.WriteAnswer.the-variants.{Written}
 use Rattle.body.specs.Body.{bodyLines, bodyBytes}
-use Rattle.picture_file.specs.File.{headerBytes, pictureForm, pictureFile}
+use Rattle.picture_file.specs.File.{pictureForm, pictureFile}
 use Rattle.writer.specs.Write.{writeOf, outAfter}
 use Rattle.roundtrip.specs.Header.{InRange, withoutPad, header-back}
 use Rattle.roundtrip.specs.Lines.{lines-back}

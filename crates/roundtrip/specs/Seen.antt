@@ -1,14 +1,11 @@
 -- The one picture of the written file: its properties, and that none of 21 to 24 is given.
-use Prim.Native.Nat.{ℕ, _+_, _*_, _%_, _≤_}
-use mathlib.Core.Path.{_≡_, refl, sym, ap, _∙_}
-use mathlib.Core.Bool.{true, false, not}
-use mathlib.Core.List.{List, [], _∷_, _++_}
-use lib.Dec.{ltb, eqb}
+use Prim.Native.Nat.{ℕ, _%_}
+use mathlib.Core.Path.{_≡_, refl}
+use mathlib.Core.Bool.{true, false}
+use mathlib.Core.List.{List, [], _∷_}
 use lib.IntN.{pos}
 use lib.ListN.{length}
 use borrow.Author.Tests.{eq-eqb}
-use native.Mathlib.Omega.{arith}
-use Rattle.ilbm.specs.declared.Origin.{Origin}
 use Rattle.ilbm.specs.declared.Origin.the-variants.{Own, Absent}
 use Rattle.ilbm.specs.declared.BitmapHeader.{BitmapHeader}
 use Rattle.ilbm.specs.declared.Picture.{Picture}

@@ -1,21 +1,20 @@
 -- The written file is a chunk file of the grammar with nothing trailing, so it is accepted and its tree is found.
-use Prim.Native.Nat.{ℕ, _+_, _≤_}
+use Prim.Native.Nat.{ℕ, _≤_}
 use mathlib.Core.Path.{_≡_, refl, sym, ap, _∙_}
-use mathlib.Core.Bool.{true, false}
-use mathlib.Core.List.{List, [], _∷_, _++_, append-nil}
+use mathlib.Core.List.{List, [], _∷_, append-nil}
 use lib.ListN.{length, length-replicate}
 use native.Mathlib.Omega.{arith}
 use Rattle.name.specs.Name.{wellFormed, versionName, typeBytes, reservedName, typeName, kindOf}
 use Rattle.rules.specs.declared.Position.the-variants.{Outermost, InForm}
 use Rattle.tree.specs.declared.Verdict.the-variants.{Accepted}
-use Rattle.chunk.specs.Chunks.{Chunks, none, leaf, group, before, bytes, count}
+use Rattle.chunk.specs.Chunks.{Chunks, none, leaf, before, bytes, count}
 use Rattle.tree.specs.Judge.{found, readFile, checkOf}
 use Rattle.grammar.specs.Grammar.{Members, height, ChunkFile}
 use Rattle.grammar.specs.Accept.{complete, ends}
 use Rattle.ilbm.specs.declared.BitmapHeader.{BitmapHeader}
-use Rattle.ilbm.specs.Contents.{CMAP, BODY}
+use Rattle.ilbm.specs.Contents.{BODY}
 use Rattle.body.specs.Body.{bodyBytes}
-use Rattle.picture_file.specs.File.{headerBytes, padOf, paletteThen, membersFor, pictureForm, pictureFile}
+use Rattle.picture_file.specs.File.{headerBytes, padOf, paletteThen, pictureForm, pictureFile}
 
 -- FORM, BMHD and BODY, and CMAP if there is a palette
 abbrev pub chunksFor : List ℕ → ℕ

@@ -1,6 +1,6 @@
 -- What an answer that is no refusal tells of the header, the palette and the frame.
-use Prim.Native.Nat.{ℕ, _+_, _*_, _%_, _^_, _≤_, _<_}
-use mathlib.Core.Path.{_≡_, refl, sym, _∙_}
+use Prim.Native.Nat.{ℕ, _*_, _%_, _^_, _≤_}
+use mathlib.Core.Path.{_≡_, refl}
 use mathlib.Core.Bool.{Bool, true, false, not}
 use mathlib.Core.List.{List, [], _∷_}
 use lib.Dec.{ltb, eqb}
@@ -9,10 +9,9 @@ use borrow.Author.Tests.{ltb-true, ltb-false, eqb-true, not-false}
 use native.Mathlib.Omega.{arith}
 use Rattle.name.specs.Name.{either, pick}
 use Rattle.ilbm.specs.declared.BitmapHeader.{BitmapHeader}
-use Rattle.writer.specs.declared.WriteAnswer.{WriteAnswer}
 use Rattle.writer.specs.declared.WriteAnswer.the-variants.{Written, Refused}
 use Rattle.picture_file.specs.File.{pictureFile}
-use Rattle.writer.specs.Write.{wrongFields, colourOver, answerFor, writeOf}
+use Rattle.writer.specs.Write.{wrongFields, colourOver, writeOf}
 use Rattle.roundtrip.specs.Planes.{Below}
 
 -- not 33, 34, 35 or 32, and the length that is told

@@ -1,7 +1,7 @@
 -- Each rule as the comparison of ranks that the code makes: by cases on the kind.
 use Prim.Native.Nat.{ℕ}
 use mathlib.Core.Path.{_≡_, refl, sym, ap, _∙_}
-use mathlib.Core.Bool.{Bool, true, false, not}
+use mathlib.Core.Bool.{Bool, not}
 use mathlib.Core.List.{[], _∷_}
 use lib.Dec.{leb, eqb}
 use types.Run.{OneOf, miss}

@@ -1,5 +1,5 @@
 -- The walk's next place is that of the next chunk, so it comes to the places in the order in which the search for repeats does.
-use Prim.Native.Nat.{ℕ, _+_}
+use Prim.Native.Nat.{ℕ}
 use mathlib.Core.Path.{_≡_, sym, _∙_}
 use mathlib.Core.List.{List}
 use native.Mathlib.Omega.{arith}

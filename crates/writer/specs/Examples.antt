@@ -3,7 +3,6 @@ use Prim.Native.Nat.{ℕ}
 use mathlib.Core.Path.{_≡_, refl}
 use mathlib.Core.List.{List, [], _∷_}
 use lib.IntN.{pos}
-use lib.ListN.{length}
 use Rattle.chunk.specs.Chunks.{bytes}
 use Rattle.pieces.specs.Pieces.{three, sameFor, plainFor, pieceOf}
 use Rattle.pack.specs.Pack.{packBy, packed}

@@ -1,5 +1,5 @@
 -- A plain row is put as it is, any other packed, in a buffer that is small for a narrow picture.
-use Rattle.body.proofs.Rows.{packed-room, written-laws}
+use Rattle.body.proofs.Rows.{written-laws}
 use borrow.Author.Needs.{needs}
 use Rattle.body.proofs.put_row.Statement.{statement}
 use Rattle.body.proofs.put_row.Tie as tie

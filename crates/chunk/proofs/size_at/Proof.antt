@@ -3,9 +3,6 @@ use Rattle.chunk.specs.Chunks.{word}
 use borrow.Author.Needs.{needs}
 use Rattle.chunk.proofs.size_at.Statement.{statement}
 use Rattle.chunk.proofs.size_at.Tie as tie
-use Rattle.chunk.proofs.size_at.Reads as reads
-use Rattle.chunk.proofs.size_at.Lts as lts
-use Rattle.chunk.proofs.quad.Reads as quad-reads
 
 shared-slice-read-quad : tie.Need-shared-slice-read-quad
 shared-slice-read-quad c = search needs

@@ -3,9 +3,6 @@ use Rattle.chunk_calls.proofs.Told.{data-lies, data-refused}
 use borrow.Author.Needs.{needs}
 use Rattle.chunk_calls.proofs.iff_data.Statement.{statement}
 use Rattle.chunk_calls.proofs.iff_data.Tie as tie
-use Rattle.chunk_calls.proofs.iff_data.Reads as reads
-use Rattle.chunk_calls.proofs.iff_data.Lts as lts
-use Rattle.extents.proofs.data_extent.Reads as data-extent-reads
 
 data-extent-requires : tie.Need-data-extent-requires
 data-extent-requires c κs = search needs

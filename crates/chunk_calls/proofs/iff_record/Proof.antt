@@ -3,10 +3,6 @@ use Rattle.chunk_calls.proofs.Told.{record-listed, record-refused}
 use borrow.Author.Needs.{needs}
 use Rattle.chunk_calls.proofs.iff_record.Statement.{statement}
 use Rattle.chunk_calls.proofs.iff_record.Tie as tie
-use Rattle.chunk_calls.proofs.iff_record.Reads as reads
-use Rattle.chunk_calls.proofs.iff_record.Lts as lts
-use Rattle.told.proofs.kind_number.Reads as kind-number-reads
-use Rattle.lookup.proofs.record_by_number.Reads as record-by-number-reads
 
 record-by-number-requires : tie.Need-record-by-number-requires
 record-by-number-requires c κs = search needs

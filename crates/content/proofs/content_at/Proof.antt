@@ -4,12 +4,6 @@ use Rattle.content.proofs.Laws.{plain-bmhd, plain-cmap, plain-grab, pla
 use borrow.Author.Needs.{needs}
 use Rattle.content.proofs.content_at.Statement.{statement}
 use Rattle.content.proofs.content_at.Tie as tie
-use Rattle.content.proofs.content_at.Reads as reads
-use Rattle.content.proofs.content_at.Lts as lts
-use Rattle.content.proofs.property.Reads as property-reads
-use Rattle.members.proofs.count_bodies.Reads as count-bodies-reads
-use Rattle.members.proofs.first_body.Reads as first-body-reads
-use Rattle.members.proofs.until_body.Reads as until-body-reads
 
 count-bodies-requires : tie.Need-count-bodies-requires
 count-bodies-requires c κs = search needs

@@ -4,10 +4,6 @@ use Rattle.content.proofs.Laws.{until-row, counts-own, counts-shared}
 use borrow.Author.Needs.{needs}
 use Rattle.content.proofs.property.Statement.{statement}
 use Rattle.content.proofs.property.Tie as tie
-use Rattle.content.proofs.property.Reads as reads
-use Rattle.content.proofs.property.Lts as lts
-use Rattle.content.proofs.shared_property.Reads as shared-property-reads
-use Rattle.members.proofs.last_named.Reads as last-named-reads
 
 last-named-requires : tie.Need-last-named-requires
 last-named-requires c κs = search (until-row, needs)

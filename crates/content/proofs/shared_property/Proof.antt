@@ -3,10 +3,6 @@ use Rattle.content.proofs.Laws.{prop-laws}
 use borrow.Author.Needs.{needs}
 use Rattle.content.proofs.shared_property.Statement.{statement}
 use Rattle.content.proofs.shared_property.Tie as tie
-use Rattle.content.proofs.shared_property.Reads as reads
-use Rattle.content.proofs.shared_property.Lts as lts
-use Rattle.members.proofs.last_named.Reads as last-named-reads
-use Rattle.chunk.proofs.size_at.Reads as size-at-reads
 
 returns : tie.Need-returns
 returns c = search (prop-laws, needs)

@@ -6,10 +6,6 @@ use Rattle.count.proofs.Laws.{count-refused}
 use borrow.Author.Needs.{needs}
 use Rattle.count.proofs.count_pictures.Statement.{statement}
 use Rattle.count.proofs.count_pictures.Tie as tie
-use Rattle.count.proofs.count_pictures.Reads as reads
-use Rattle.count.proofs.count_pictures.Lts as lts
-use Rattle.count.proofs.count_sound.Reads as count-sound-reads
-use Rattle.tree.proofs.check.Reads as check-reads
 
 check-requires : tie.Need-check-requires
 check-requires c κs = search needs

@@ -1,13 +1,9 @@
 -- Before each turn the pictures counted and those among the chunks still to come are all of them. The measure is the bytes left.
-use Prim.Native.Nat.{ℕ, _-_, _≤_}
+use Prim.Native.Nat.{_-_, _≤_}
 use borrow.Author.Needs.{needs}
 use Rattle.count.proofs.Laws.{Tally, tally-laws}
 use Rattle.count.proofs.count_sound.Statement.{statement}
 use Rattle.count.proofs.count_sound.Tie as tie
-use Rattle.count.proofs.count_sound.Reads as reads
-use Rattle.count.proofs.count_sound.Lts as lts
-use Rattle.count.proofs.form_at.Reads as form-at-reads
-use Rattle.count.proofs.next_chunk.Reads as next-chunk-reads
 
 abbrev Inv-loop : tie.InvT-loop
 Inv-loop s end p₀ n₀ p n = (n ≤ p) × Tally s end p n

@@ -3,9 +3,6 @@ use borrow.Author.Needs.{needs}
 use Rattle.count.proofs.Laws.{header-room, type-room, form-hit, form-other, form-none}
 use Rattle.count.proofs.form_at.Statement.{statement}
 use Rattle.count.proofs.form_at.Tie as tie
-use Rattle.count.proofs.form_at.Reads as reads
-use Rattle.count.proofs.form_at.Lts as lts
-use Rattle.chunk.proofs.name_at.Reads as name-at-reads
 
 name-at-requires : tie.Need-name-at-requires
 name-at-requires c κs = search (header-room, needs)

@@ -3,12 +3,6 @@ use borrow.Author.Needs.{needs}
 use Rattle.count.proofs.Laws.{header-room, size-room, following-group, following-leaf}
 use Rattle.count.proofs.next_chunk.Statement.{statement}
 use Rattle.count.proofs.next_chunk.Tie as tie
-use Rattle.count.proofs.next_chunk.Reads as reads
-use Rattle.count.proofs.next_chunk.Lts as lts
-use Rattle.name.proofs.Name.kind.Reads as kind-reads
-use Rattle.rules.proofs.is_group.Reads as is-group-reads
-use Rattle.chunk.proofs.name_at.Reads as name-at-reads
-use Rattle.chunk.proofs.size_at.Reads as size-at-reads
 
 name-at-requires : tie.Need-name-at-requires
 name-at-requires c κs = search (header-room, needs)

@@ -3,10 +3,6 @@ use Rattle.fields.proofs.Laws.{same-bits, bitmap-header}
 use borrow.Author.Needs.{needs}
 use Rattle.fields.proofs.bitmap_header.Statement.{statement}
 use Rattle.fields.proofs.bitmap_header.Tie as tie
-use Rattle.fields.proofs.bitmap_header.Reads as reads
-use Rattle.fields.proofs.bitmap_header.Lts as lts
-use Rattle.fields.proofs.signed_at.Reads as signed-at-reads
-use Rattle.fields.proofs.word_at.Reads as word-at-reads
 
 word-at-requires : tie.Need-word-at-requires
 word-at-requires c κs = search needs

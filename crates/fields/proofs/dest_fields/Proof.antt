@@ -3,9 +3,6 @@ use Rattle.fields.proofs.Laws.{destination}
 use borrow.Author.Needs.{needs}
 use Rattle.fields.proofs.dest_fields.Statement.{statement}
 use Rattle.fields.proofs.dest_fields.Tie as tie
-use Rattle.fields.proofs.dest_fields.Reads as reads
-use Rattle.fields.proofs.dest_fields.Lts as lts
-use Rattle.fields.proofs.word_at.Reads as word-at-reads
 
 shared-slice-read-t3 : tie.Need-shared-slice-read-t3
 shared-slice-read-t3 c = search needs

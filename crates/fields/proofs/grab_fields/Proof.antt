@@ -3,9 +3,6 @@ use Rattle.fields.proofs.Laws.{same-bits, hot-spot}
 use borrow.Author.Needs.{needs}
 use Rattle.fields.proofs.grab_fields.Statement.{statement}
 use Rattle.fields.proofs.grab_fields.Tie as tie
-use Rattle.fields.proofs.grab_fields.Reads as reads
-use Rattle.fields.proofs.grab_fields.Lts as lts
-use Rattle.fields.proofs.signed_at.Reads as signed-at-reads
 
 signed-at-requires : tie.Need-signed-at-requires
 signed-at-requires c κs = search needs

@@ -4,8 +4,6 @@ use Rattle.fields.proofs.Laws.{signed-low, high-fits, signed-high}
 use borrow.Author.Needs.{needs}
 use Rattle.fields.proofs.signed.Statement.{statement}
 use Rattle.fields.proofs.signed.Tie as tie
-use Rattle.fields.proofs.signed.Reads as reads
-use Rattle.fields.proofs.signed.Lts as lts
 
 cast-result : tie.Need-cast-result
 cast-result c = search needs

@@ -5,10 +5,6 @@ use Rattle.ilbm.specs.Pictures.{signed}
 use borrow.Author.Needs.{needs}
 use Rattle.fields.proofs.signed_at.Statement.{statement}
 use Rattle.fields.proofs.signed_at.Tie as tie
-use Rattle.fields.proofs.signed_at.Reads as reads
-use Rattle.fields.proofs.signed_at.Lts as lts
-use Rattle.fields.proofs.signed.Reads as signed-reads
-use Rattle.fields.proofs.word_at.Reads as word-at-reads
 
 word-at-requires : tie.Need-word-at-requires
 word-at-requires c κs = search needs

@@ -3,9 +3,6 @@ use Rattle.file_calls.proofs.Told.{check-accepted, check-refused}
 use borrow.Author.Needs.{needs}
 use Rattle.file_calls.proofs.iff_check.Statement.{statement}
 use Rattle.file_calls.proofs.iff_check.Tie as tie
-use Rattle.file_calls.proofs.iff_check.Reads as reads
-use Rattle.file_calls.proofs.iff_check.Lts as lts
-use Rattle.tree.proofs.check.Reads as check-reads
 
 check-requires : tie.Need-check-requires
 check-requires c κs = search needs

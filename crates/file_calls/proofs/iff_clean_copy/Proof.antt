@@ -3,9 +3,6 @@ use Rattle.file_calls.proofs.Told.{copy-written, copy-refused}
 use borrow.Author.Needs.{needs}
 use Rattle.file_calls.proofs.iff_clean_copy.Statement.{statement}
 use Rattle.file_calls.proofs.iff_clean_copy.Tie as tie
-use Rattle.file_calls.proofs.iff_clean_copy.Reads as reads
-use Rattle.file_calls.proofs.iff_clean_copy.Lts as lts
-use Rattle.copy.proofs.clean_copy.Reads as clean-copy-reads
 
 clean-copy-requires : tie.Need-clean-copy-requires
 clean-copy-requires c κs = search needs

@@ -3,9 +3,6 @@ use Rattle.file_calls.proofs.Told.{pictures-counted, count-refused}
 use borrow.Author.Needs.{needs}
 use Rattle.file_calls.proofs.iff_count_pictures.Statement.{statement}
 use Rattle.file_calls.proofs.iff_count_pictures.Tie as tie
-use Rattle.file_calls.proofs.iff_count_pictures.Reads as reads
-use Rattle.file_calls.proofs.iff_count_pictures.Lts as lts
-use Rattle.count.proofs.count_pictures.Reads as count-pictures-reads
 
 count-pictures-requires : tie.Need-count-pictures-requires
 count-pictures-requires c κs = search needs

@@ -3,11 +3,6 @@ use Rattle.flags.proofs.FlagLaws.{flag-laws}
 use borrow.Author.Needs.{needs}
 use Rattle.flags.proofs.flagged.Statement.{statement}
 use Rattle.flags.proofs.flagged.Tie as tie
-use Rattle.flags.proofs.flagged.Reads as reads
-use Rattle.flags.proofs.flagged.Lts as lts
-use Rattle.flags.proofs.in_class.Reads as in-class-reads
-use Rattle.chunk.proofs.name_at.Reads as name-at-reads
-use Rattle.flags.proofs.slot.Reads as slot-reads
 
 in-class-requires : tie.Need-in-class-requires
 in-class-requires c κs = search needs

@@ -6,10 +6,6 @@ use Rattle.flags.proofs.FlagLaws.{flag-laws, Tracked}
 use borrow.Author.Needs.{needs}
 use Rattle.flags.proofs.fresh_in_class.Statement.{statement}
 use Rattle.flags.proofs.fresh_in_class.Tie as tie
-use Rattle.flags.proofs.fresh_in_class.Reads as reads
-use Rattle.flags.proofs.fresh_in_class.Lts as lts
-use Rattle.flags.proofs.flagged.Reads as flagged-reads
-use Rattle.chunk.proofs.next_at.Reads as next-at-reads
 
 abbrev Inv-loop : tie.InvT-loop
 Inv-loop s from limit class flags₀ q₀ flags q = (length flags ≡ 27436) × Tracked class s from q flags

@@ -3,9 +3,6 @@ use Rattle.flags.proofs.FlagLaws.{flag-laws}
 use borrow.Author.Needs.{needs}
 use Rattle.flags.proofs.slot.Statement.{statement}
 use Rattle.flags.proofs.slot.Tie as tie
-use Rattle.flags.proofs.slot.Reads as reads
-use Rattle.flags.proofs.slot.Lts as lts
-use Rattle.flags.proofs.digit.Reads as digit-reads
 
 digit-requires : tie.Need-digit-requires
 digit-requires c κs = tt

@@ -1,7 +1,6 @@
 -- `gather` meets its contract. The loop's invariant: the first x pixels have their colours; the measure is what is left of the row.
 use Prim.Native.Nat.{_-_, _≤_}
 use mathlib.Core.Path.{_≡_}
-use native.Mathlib.Omega.{arith}
 use lib.ListN.{length}
 use borrow.Author.Needs.{needs}
 use Rattle.gather.specs.Buffer.{rowsIn}

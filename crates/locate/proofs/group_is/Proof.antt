@@ -3,12 +3,6 @@ use Rattle.locate.proofs.Laws.{name-room, type-room, group-tested, leaf
 use borrow.Author.Needs.{needs}
 use Rattle.locate.proofs.group_is.Statement.{statement}
 use Rattle.locate.proofs.group_is.Tie as tie
-use Rattle.locate.proofs.group_is.Reads as reads
-use Rattle.locate.proofs.group_is.Lts as lts
-use Rattle.locate.proofs.is_a.Reads as is-a-reads
-use Rattle.name.proofs.Name.kind.Reads as kind-reads
-use Rattle.rules.proofs.is_group.Reads as is-group-reads
-use Rattle.chunk.proofs.name_at.Reads as name-at-reads
 
 name-at-requires : tie.Need-name-at-requires
 name-at-requires c κs = search (name-room, needs)

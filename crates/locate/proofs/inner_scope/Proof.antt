@@ -3,11 +3,6 @@ use Rattle.locate.proofs.Laws.{group-laws}
 use borrow.Author.Needs.{needs}
 use Rattle.locate.proofs.inner_scope.Statement.{statement}
 use Rattle.locate.proofs.inner_scope.Tie as tie
-use Rattle.locate.proofs.inner_scope.Reads as reads
-use Rattle.locate.proofs.inner_scope.Lts as lts
-use Rattle.locate.proofs.shared_prop.Reads as shared-prop-reads
-use Rattle.chunk.proofs.name_at.Reads as name-at-reads
-use Rattle.chunk.proofs.size_at.Reads as size-at-reads
 
 name-at-requires : tie.Need-name-at-requires
 name-at-requires c κs = search (group-laws, needs)

@@ -3,8 +3,6 @@ use borrow.Author.Needs.{needs}
 use Rattle.locate.proofs.Laws.{is-a-hit, is-a-miss}
 use Rattle.locate.proofs.is_a.Statement.{statement}
 use Rattle.locate.proofs.is_a.Tie as tie
-use Rattle.locate.proofs.is_a.Reads as reads
-use Rattle.locate.proofs.is_a.Lts as lts
 
 returns : tie.Need-returns
 returns c = search (is-a-hit, needs)

@@ -1,16 +1,12 @@
 -- Before each turn the PROP of the members still to come is that of all: a PROP ILBM ends the search, and at the end the one
 -- around is left.
-use Prim.Native.Nat.{ℕ, _-_, _≤_}
+use Prim.Native.Nat.{_-_, _≤_}
 use native.Mathlib.Omega.{arith}
 use borrow.Author.Needs.{needs}
 use Rattle.members.specs.Members.{Row}
 use Rattle.locate.proofs.Laws.{Sharing, sharing-laws, sharing-end}
 use Rattle.locate.proofs.shared_prop.Statement.{statement}
 use Rattle.locate.proofs.shared_prop.Tie as tie
-use Rattle.locate.proofs.shared_prop.Reads as reads
-use Rattle.locate.proofs.shared_prop.Lts as lts
-use Rattle.locate.proofs.group_is.Reads as group-is-reads
-use Rattle.members.proofs.sibling_at.Reads as sibling-at-reads
 
 abbrev Inv-loop : tie.InvT-loop
 Inv-loop s p e prop q₀ q = (p ≤ q) × (q ≤ e) × Row s q e × Sharing s p e q

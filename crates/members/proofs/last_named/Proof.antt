@@ -1,6 +1,6 @@
 -- Before each turn the last of the name among the members still to come, or else the part held, is that of all. The measure is
 -- the bytes left.
-use Prim.Native.Nat.{ℕ, _+_, _-_, _≤_}
+use Prim.Native.Nat.{_-_, _≤_}
 use native.Mathlib.Omega.{arith}
 use borrow.Author.Needs.{needs}
 use Rattle.members.specs.Members.{Row}

@@ -2,8 +2,6 @@
 use borrow.Author.Needs.{needs}
 use Rattle.members.proofs.newer.Statement.{statement}
 use Rattle.members.proofs.newer.Tie as tie
-use Rattle.members.proofs.newer.Reads as reads
-use Rattle.members.proofs.newer.Lts as lts
 
 returns : tie.Need-returns
 returns c = cc

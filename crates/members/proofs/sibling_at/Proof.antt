@@ -6,10 +6,6 @@ use Rattle.members.proofs.Laws.{row-room, front-read, sibling-inside}
 use borrow.Author.Needs.{needs}
 use Rattle.members.proofs.sibling_at.Statement.{statement}
 use Rattle.members.proofs.sibling_at.Tie as tie
-use Rattle.members.proofs.sibling_at.Reads as reads
-use Rattle.members.proofs.sibling_at.Lts as lts
-use Rattle.chunk.proofs.name_at.Reads as name-at-reads
-use Rattle.chunk.proofs.size_at.Reads as size-at-reads
 
 add-size-at : tie.Need-add-size-at
 add-size-at c = search needs

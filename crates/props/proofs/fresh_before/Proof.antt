@@ -5,9 +5,6 @@ use Rattle.props.proofs.RepeatLaws.{Covered, covered-start, covered-mor
 use borrow.Author.Needs.{needs}
 use Rattle.props.proofs.fresh_before.Statement.{statement}
 use Rattle.props.proofs.fresh_before.Tie as tie
-use Rattle.props.proofs.fresh_before.Reads as reads
-use Rattle.props.proofs.fresh_before.Lts as lts
-use Rattle.flags.proofs.fresh_in_class.Reads as fresh-in-class-reads
 
 abbrev Inv-loop : tie.InvT-loop
 Inv-loop s from limit r₀ class₀ r class = (r ≤ length s - 11) × Covered class s from r

@@ -3,10 +3,6 @@ use Rattle.props.proofs.RepeatLaws.{fresh-none}
 use borrow.Author.Needs.{needs}
 use Rattle.props.proofs.fresh_in_list.Statement.{statement}
 use Rattle.props.proofs.fresh_in_list.Tie as tie
-use Rattle.props.proofs.fresh_in_list.Reads as reads
-use Rattle.props.proofs.fresh_in_list.Lts as lts
-use Rattle.props.proofs.fresh_before.Reads as fresh-before-reads
-use Rattle.props.proofs.prop_run.Reads as prop-run-reads
 
 returns : tie.Need-returns
 returns c = fresh-none _ _

@@ -1,5 +1,5 @@
 -- The loop keeps what is still to come equal to the whole answer; one turn and the end are laws of ScanLaws.antt.
-use Prim.Native.Nat.{ℕ, _-_}
+use Prim.Native.Nat.{_-_}
 use mathlib.Core.Path.{refl}
 use native.Mathlib.Omega.{arith}
 use borrow.Author.Needs.{needs}
@@ -7,10 +7,6 @@ use Rattle.rules.specs.Rules.{propBefore}
 use Rattle.props.proofs.ScanLaws.{Scans, scans-hit, scans-more, scans-end}
 use Rattle.props.proofs.prop_before.Statement.{statement}
 use Rattle.props.proofs.prop_before.Tie as tie
-use Rattle.props.proofs.prop_before.Reads as reads
-use Rattle.props.proofs.prop_before.Lts as lts
-use Rattle.props.proofs.prop_at.Reads as prop-at-reads
-use Rattle.chunk.proofs.next_at.Reads as next-at-reads
 
 abbrev Inv-loop : tie.InvT-loop
 Inv-loop s from p t q₀ q = Scans s q p (t .code) (propBefore s from p (t .code))

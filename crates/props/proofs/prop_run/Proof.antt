@@ -3,10 +3,6 @@ use Prim.Native.Nat.{_-_, _≤_}
 use borrow.Author.Needs.{needs}
 use Rattle.props.proofs.prop_run.Statement.{statement}
 use Rattle.props.proofs.prop_run.Tie as tie
-use Rattle.props.proofs.prop_run.Reads as reads
-use Rattle.props.proofs.prop_run.Lts as lts
-use Rattle.chunk.proofs.name_at.Reads as name-at-reads
-use Rattle.chunk.proofs.next_at.Reads as next-at-reads
 
 abbrev Inv-loop : tie.InvT-loop
 Inv-loop s from limit q₀ chunks₀ q chunks = chunks ≤ q

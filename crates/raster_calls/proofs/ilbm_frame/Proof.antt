@@ -3,9 +3,6 @@ use Rattle.raster_calls.proofs.Told.{frame-left, frame-refused}
 use borrow.Author.Needs.{needs}
 use Rattle.raster_calls.proofs.ilbm_frame.Statement.{statement}
 use Rattle.raster_calls.proofs.ilbm_frame.Tie as tie
-use Rattle.raster_calls.proofs.ilbm_frame.Reads as reads
-use Rattle.raster_calls.proofs.ilbm_frame.Lts as lts
-use Rattle.rows.proofs.whole_frame.Reads as whole-frame-reads
 
 whole-frame-requires : tie.Need-whole-frame-requires
 whole-frame-requires c κs = search needs

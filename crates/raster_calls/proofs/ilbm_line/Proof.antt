@@ -3,9 +3,6 @@ use Rattle.raster_calls.proofs.Told.{line-next, line-refused}
 use borrow.Author.Needs.{needs}
 use Rattle.raster_calls.proofs.ilbm_line.Statement.{statement}
 use Rattle.raster_calls.proofs.ilbm_line.Tie as tie
-use Rattle.raster_calls.proofs.ilbm_line.Reads as reads
-use Rattle.raster_calls.proofs.ilbm_line.Lts as lts
-use Rattle.rows.proofs.scan_line.Reads as scan-line-reads
 
 scan-line-requires : tie.Need-scan-line-requires
 scan-line-requires c κs = search needs

@@ -3,7 +3,6 @@
 -- one of the members, so that what `fresh` says of each of them holds there.
 use Prim.Native.Nat.{ℕ, _+_, _-_, _*_, _≤_, _<_}
 use mathlib.Core.Path.{refl}
-use native.Mathlib.Omega.{arith}
 use borrow.Author.Needs.{needs}
 use Rattle.tree.specs.Judge.{chunkAt, membersOf, toldAll}
 use Rattle.tree.proofs.WalkLaws.{Runs, walk-laws, member-leaf, leaf-ahead}

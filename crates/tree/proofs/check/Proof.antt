@@ -3,13 +3,6 @@ use Rattle.tree.proofs.WalkLaws.{too-long, too-short, outer-version, ou
 use borrow.Author.Needs.{needs}
 use Rattle.tree.proofs.check.Statement.{statement}
 use Rattle.tree.proofs.check.Tie as tie
-use Rattle.tree.proofs.check.Reads as reads
-use Rattle.tree.proofs.check.Lts as lts
-use Rattle.name.proofs.Name.is_version.Reads as is-version-reads
-use Rattle.name.proofs.Name.kind.Reads as kind-reads
-use Rattle.rules.proofs.is_section.Reads as is-section-reads
-use Rattle.chunk.proofs.name_at.Reads as name-at-reads
-use Rattle.tree.proofs.outermost.Reads as outermost-reads
 
 returns : tie.Need-returns
 returns c = too-long _ (search needs)

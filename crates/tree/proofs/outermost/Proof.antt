@@ -8,9 +8,6 @@ use Rattle.tree.proofs.WayLaws.{way-laws}
 use borrow.Author.Needs.{needs}
 use Rattle.tree.proofs.outermost.Statement.{statement}
 use Rattle.tree.proofs.outermost.Tie as tie
-use Rattle.tree.proofs.outermost.Reads as reads
-use Rattle.tree.proofs.outermost.Lts as lts
-use Rattle.tree.proofs.member.Reads as member-reads
 
 member-requires : tie.Need-member-requires
 member-requires c κs = search (way-laws, needs)

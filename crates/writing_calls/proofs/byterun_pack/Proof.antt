@@ -3,9 +3,6 @@ use borrow.Author.Needs.{needs}
 use Rattle.writing_calls.proofs.Told.{pack-written, pack-bad-length, pack-no-room}
 use Rattle.writing_calls.proofs.byterun_pack.Statement.{statement}
 use Rattle.writing_calls.proofs.byterun_pack.Tie as tie
-use Rattle.writing_calls.proofs.byterun_pack.Reads as reads
-use Rattle.writing_calls.proofs.byterun_pack.Lts as lts
-use Rattle.pack.proofs.pack_row.Reads as pack-row-reads
 
 pack-row-requires : tie.Need-pack-row-requires
 pack-row-requires c κs = search needs

@@ -3,9 +3,6 @@ use Rattle.writing_calls.proofs.Told.{header-handed, picture-written, p
 use borrow.Author.Needs.{needs}
 use Rattle.writing_calls.proofs.ilbm_write.Statement.{statement}
 use Rattle.writing_calls.proofs.ilbm_write.Tie as tie
-use Rattle.writing_calls.proofs.ilbm_write.Reads as reads
-use Rattle.writing_calls.proofs.ilbm_write.Lts as lts
-use Rattle.writer.proofs.write_picture.Reads as write-picture-reads
 
 write-picture-requires : tie.Need-write-picture-requires
 write-picture-requires c κs = search needs

@@ -2,9 +2,6 @@
 use Rattle.name.specs.Name.{both, typeBytes}
 use Rattle.name.proofs.Name.has_type_bytes.Statement.{statement}
 use Rattle.name.proofs.Name.has_type_bytes.Tie as tie
-use Rattle.name.proofs.Name.has_type_bytes.Reads as reads
-use Rattle.name.proofs.Name.has_type_bytes.Lts as lts
-use Rattle.name.proofs.type_byte.Reads as type-byte-reads
 
 type-byte-requires : tie.Need-type-byte-requires
 type-byte-requires c κs = tt

@@ -3,8 +3,6 @@ use mathlib.Core.Path.{refl}
 use Rattle.name.specs.Name.{reservedName}
 use Rattle.name.proofs.Name.is_reserved.Statement.{statement}
 use Rattle.name.proofs.Name.is_reserved.Tie as tie
-use Rattle.name.proofs.Name.is_reserved.Reads as reads
-use Rattle.name.proofs.Name.is_reserved.Lts as lts
 
 returns : tie.Need-returns
 unfolding reservedName

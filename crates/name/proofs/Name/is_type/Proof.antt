@@ -3,12 +3,6 @@ use mathlib.Core.Bool.{not}
 use Rattle.name.specs.Name.{both, typeName}
 use Rattle.name.proofs.Name.is_type.Statement.{statement}
 use Rattle.name.proofs.Name.is_type.Tie as tie
-use Rattle.name.proofs.Name.is_type.Reads as reads
-use Rattle.name.proofs.Name.is_type.Lts as lts
-use Rattle.name.proofs.Name.has_type_bytes.Reads as has-type-bytes-reads
-use Rattle.name.proofs.Name.is_reserved.Reads as is-reserved-reads
-use Rattle.name.proofs.Name.is_version.Reads as is-version-reads
-use Rattle.name.proofs.Name.is_well_formed.Reads as is-well-formed-reads
 
 is-well-formed-requires : tie.Need-is-well-formed-requires
 is-well-formed-requires c κs = tt

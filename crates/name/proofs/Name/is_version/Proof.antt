@@ -3,8 +3,6 @@ use mathlib.Core.Path.{refl}
 use Rattle.name.specs.Name.{versionName}
 use Rattle.name.proofs.Name.is_version.Statement.{statement}
 use Rattle.name.proofs.Name.is_version.Tie as tie
-use Rattle.name.proofs.Name.is_version.Reads as reads
-use Rattle.name.proofs.Name.is_version.Lts as lts
 
 returns : tie.Need-returns
 unfolding versionName

@@ -2,10 +2,6 @@
 use Rattle.name.specs.Name.{both, wellFormed}
 use Rattle.name.proofs.Name.is_well_formed.Statement.{statement}
 use Rattle.name.proofs.Name.is_well_formed.Tie as tie
-use Rattle.name.proofs.Name.is_well_formed.Reads as reads
-use Rattle.name.proofs.Name.is_well_formed.Lts as lts
-use Rattle.name.proofs.printable.Reads as printable-reads
-use Rattle.name.proofs.space_then.Reads as space-then-reads
 
 printable-requires : tie.Need-printable-requires
 printable-requires c κs = tt

@@ -3,8 +3,6 @@ use borrow.Author.Tests.{eq-eqb, ne-eqb}
 use Rattle.name.specs.Name.{kindOf}
 use Rattle.name.proofs.Name.kind.Statement.{statement}
 use Rattle.name.proofs.Name.kind.Tie as tie
-use Rattle.name.proofs.Name.kind.Reads as reads
-use Rattle.name.proofs.Name.kind.Lts as lts
 
 returns : tie.Need-returns
 unfolding kindOf
