@@ -201,8 +201,6 @@ module _ (s : List ℕ) (e : ℕ) (f : Sound s e) where
 
 pub ruleset cleaning-laws = (cleaning-start, cleaning-next, cleaning-less, cleaning-done)
 
-pub ruleset sound-laws = (sound-room, refused-room, refused-same, written-length, copied-front, copied-long, copied-same)
-
 -- the answer of the check
 
 refused-by : (s : List ℕ) (k q : ℕ) → verdict.Refused k q ≡ checkOf s → readFile s ≡ refused k q

@@ -43,5 +43,3 @@ module _ (s : List ℕ) (v : Verdict) (d : v ≡ checkOf s) where
 
     pub accepted-beyond : (i : ℕ) → n ≤ i → Refused 14 0 ≡ recordOf s i
     accepted-beyond i h = let f = located-first s b n a t (sym e ∙ d) in sym (record-beyond s (f .0 .tree) i (f .0 .accepted) (omega arith))
-
-pub ruleset number-laws = (file-refused, accepted-start, accepted-more, accepted-beyond)

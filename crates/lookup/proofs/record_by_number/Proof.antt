@@ -12,13 +12,16 @@ check-requires c κs = search needs
 enum-known-v : tie.Need-enum-known-v
 enum-known-v c = search needs
 
+-- what was read is bytes
+file-bytes : (c : tie.After-check) → Bytes (c .before .before .args .s .now)
+file-bytes c i = omega (arith, c .before .shared-slice-known .given i)
+
 nth-requires : tie.Need-nth-requires
 nth-requires c κs =
     let known = c .before .before in
-    let checked = known .before .before in
-    let b : Bytes (checked .before .before .args .s .now) = λ i. omega (arith, checked .before .shared-slice-known .given i) in (
-      accepted-start _ _ (checked .check .ensures) _ _ _ (known .v .given .1) b,
-      accepted-more _ _ (checked .check .ensures) _ _ _ (known .v .given .1) b _ (c .if1 .taken),
+    let checked = known .before .before in (
+      accepted-start _ _ (checked .check .ensures) _ _ _ (known .v .given .1) (file-bytes checked),
+      accepted-more _ _ (checked .check .ensures) _ _ _ (known .v .given .1) (file-bytes checked) _ (c .if1 .taken),
     )
 
 returns : tie.Need-returns
@@ -31,8 +34,7 @@ returns-2 : tie.Need-returns-2
 returns-2 c =
     let known = c .before .before in
     let checked = known .before .before in
-    let b : Bytes (checked .before .before .args .s .now) = λ i. omega (arith, checked .before .shared-slice-known .given i) in
-    accepted-beyond _ _ (checked .check .ensures) _ _ _ (known .v .given .1) b _ (c .if1 .left)
+    accepted-beyond _ _ (checked .check .ensures) _ _ _ (known .v .given .1) (file-bytes checked) _ (c .if1 .left)
 
 returns-3 : tie.Need-returns-3
 returns-3 c = search (file-refused, needs)
