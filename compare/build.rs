@@ -1,18 +1,18 @@
-//! Links the archive that `rt staticlib listings` writes.
+//! Links the archive that `rt staticlib bench_reader` writes.
 
 use std::path::Path;
 
 fn main() {
     let folder = Path::new(env!("CARGO_MANIFEST_DIR")).join("../target/staticlib");
-    let archive = folder.join("liblistings.a");
+    let archive = folder.join("libbench_reader.a");
     println!("cargo:rerun-if-changed=build.rs");
     println!("cargo:rerun-if-changed={}", archive.display());
     if !archive.is_file() {
-        eprintln!("target/staticlib/liblistings.a is missing: run ./test (or rt staticlib listings) first");
+        eprintln!("target/staticlib/libbench_reader.a is missing: run ./test (or rt staticlib bench_reader) first");
         std::process::exit(1);
     }
     println!("cargo:rustc-link-search=native={}", folder.display());
-    println!("cargo:rustc-link-lib=static=listings");
+    println!("cargo:rustc-link-lib=static=bench_reader");
     if std::env::var_os("CARGO_FEATURE_RECORDS").is_some() {
         let code = folder.join("../records/fill.o");
         println!("cargo:rerun-if-changed={}", code.display());

@@ -1,6 +1,6 @@
 #!/bin/sh
 # The table of record structs in proportion to the file, with a stack of 256 KiB. Not in the gate.
-# A record holds an enum, so no exported call can take such a table. The code that the compiler makes of `records::fill` is taken
+# A record holds an enum, so no exported call can take such a table. The code that the compiler makes of `list_record_table::fill` is taken
 # from a small program that is tried and not proved, and linked under a name of its own; nothing else of it is changed.
 set -eu
 cd "$(dirname "$0")"
@@ -37,14 +37,14 @@ chmod +x "$work/kit/on/$machine/toolchain/bin/clang"
 mkdir -p "$work/program/crates/filled/src"
 cp -R "$root/crates" "$work/program"
 cp "$root/crates.txt" "$work/program"
-echo "filled: $(sed -n 's/^records: */records /p' "$root/crates.txt")" >> "$work/program/crates.txt"
+echo "filled: $(sed -n 's/^list_record_table: */records /p' "$root/crates.txt")" >> "$work/program/crates.txt"
 cat > "$work/program/crates/filled/src/main.rt" <<'END'
-use listing::Record;
-use name::Kind;
-use name::Name;
+use list_spec::Record;
+use iff_name::Kind;
+use iff_name::Name;
 
 fn fill(table: &mut [Record]) {
-    records::fill(b"", table);
+    list_record_table::fill(b"", table);
 }
 
 fn main() {
@@ -62,7 +62,7 @@ END
 (cd "$work/program" && RATTLE_HOME=$work/kit rt try filled > "$work/tried" 2>&1) || { cat "$work/tried"; exit 1; }
 
 "$own/bin/clang" -x ir -S -emit-llvm -O0 -Xclang -disable-llvm-passes "$work/module.bc" -o "$work/module.ll"
-sed -e 's/define internal void @"records::fill"/define void @records_fill/' -e 's/@"records::fill"/@records_fill/g' \
+sed -e 's/define internal void @"list_record_table::fill"/define void @records_fill/' -e 's/@"list_record_table::fill"/@records_fill/g' \
     -e '/^define i32 @main()/,/^}/d' "$work/module.ll" > "$work/fill.ll"
 "$own/bin/clang" --target=x86_64-unknown-linux-gnu -march=x86-64 -ffunction-sections -fdata-sections -fPIE -O3 \
     -c -x ir "$work/fill.ll" -o "$work/fill.o"

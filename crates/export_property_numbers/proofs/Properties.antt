@@ -1,0 +1,55 @@
+-- What is told of a picture's properties, from the answer of the picture call to what an exported call stores.
+use mathlib.Core.Path.{_≡_, ap, _∙_}
+use mir.Syntax.{w16}
+use mir.Val.{toZ, ofZ, SFits}
+use mir.Facts.{toZ-ofZ}
+use Rattle.ilbm_spec.specs.declared.PictureAnswer.{PictureAnswer}
+use Rattle.export_property_numbers.specs.declared.HeaderTold.{HeaderTold}
+use Rattle.export_property_numbers.specs.declared.GrabTold.{GrabTold}
+use Rattle.export_property_numbers.specs.Properties.{headerTold, grabTold}
+
+-- what is told of the answer of the picture call
+pub told-of : {T : Type 0} (tell : PictureAnswer → T) (v a : PictureAnswer) → v ≡ a → (t : T) → t ≡ tell v → t ≡ tell a
+told-of tell v a b t e = e ∙ ap tell b
+
+-- the signed fields are stored as bits, which give the same numbers again
+pub header-stored :
+    (v a : PictureAnswer) → v ≡ a → (t : HeaderTold) → t ≡ headerTold v → SFits w16 (t .header .x) → SFits w16 (t .header .y) →
+    SFits w16 (t .header .«page_width») → SFits w16 (t .header .«page_height») →
+    _≡_ {A = HeaderTold}
+    (record {
+      number = t .number;
+      place = t .place;
+      header = record {
+        w = t .header .w;
+        h = t .header .h;
+        x = toZ w16 (ofZ w16 (t .header .x));
+        y = toZ w16 (ofZ w16 (t .header .y));
+        planes = t .header .planes;
+        masking = t .header .masking;
+        compression = t .header .compression;
+        pad1 = t .header .pad1;
+        transparent = t .header .transparent;
+        «x_aspect» = t .header .«x_aspect»;
+        «y_aspect» = t .header .«y_aspect»;
+        «page_width» = toZ w16 (ofZ w16 (t .header .«page_width»));
+        «page_height» = toZ w16 (ofZ w16 (t .header .«page_height»));
+      };
+      origin = t .origin;
+      shared = t .shared;
+    })
+    (headerTold a)
+header-stored v a b t e f g h i = rw (toZ-ofZ f, toZ-ofZ g, toZ-ofZ h, toZ-ofZ i) (told-of headerTold v a b t e)
+
+pub grab-stored :
+    (v a : PictureAnswer) → v ≡ a → (t : GrabTold) → t ≡ grabTold v → SFits w16 (t .grab .x) → SFits w16 (t .grab .y) →
+    _≡_ {A = GrabTold}
+    (record {
+      number = t .number;
+      place = t .place;
+      grab = record { x = toZ w16 (ofZ w16 (t .grab .x)); y = toZ w16 (ofZ w16 (t .grab .y)) };
+      origin = t .origin;
+      shared = t .shared;
+    })
+    (grabTold a)
+grab-stored v a b t e f g = rw (toZ-ofZ f, toZ-ofZ g) (told-of grabTold v a b t e)

@@ -1,0 +1,218 @@
+// Each answer on a picture's properties as the numbers that the exported calls tell of it.
+use ilbm_spec::BitmapHeader;
+use ilbm_spec::Destination;
+use ilbm_spec::HotSpot;
+use ilbm_spec::Origin;
+use ilbm_spec::PictureAnswer;
+ghost use mathlib.Core.Path.{_≡_};
+ghost use Rattle.export_property_numbers.specs.Properties.{originNumber, sharedPlace, headerTold, grabTold, destinationTold, spriteTold, viewModeTold};
+
+pub fn origin_number(o: Origin) -> usize
+    ensures { λ r. ⌜ r ≡ originNumber o ⌝ }
+{
+    match o {
+        Origin::Own => 1,
+        Origin::Shared(_) => 2,
+        Origin::Absent => 0,
+    }
+}
+
+pub fn shared_place(o: Origin) -> usize
+    ensures { λ r. ⌜ r ≡ sharedPlace o ⌝ }
+{
+    match o {
+        Origin::Own => 0,
+        Origin::Shared(p) => p,
+        Origin::Absent => 0,
+    }
+}
+
+// What is told of the BMHD that counts.
+pub struct HeaderTold {
+    pub number: usize,
+    pub place: usize,
+    pub header: BitmapHeader,
+    pub origin: usize,
+    pub shared: usize,
+}
+
+pub fn header_told(v: PictureAnswer) -> HeaderTold
+    ensures { λ r. ⌜ r ≡ headerTold v ⌝ }
+{
+    match v {
+        PictureAnswer::Shown(p) => {
+            let header = p.header;
+            let o = p.header_from;
+            HeaderTold {
+                number: 0,
+                place: 0,
+                header,
+                origin: origin_number(o),
+                shared: shared_place(o),
+            }
+        }
+        PictureAnswer::Refused { number, place } => HeaderTold {
+            number,
+            place,
+            header: BitmapHeader {
+                w: 0,
+                h: 0,
+                x: 0,
+                y: 0,
+                planes: 0,
+                masking: 0,
+                compression: 0,
+                pad1: 0,
+                transparent: 0,
+                x_aspect: 0,
+                y_aspect: 0,
+                page_width: 0,
+                page_height: 0,
+            },
+            origin: 0,
+            shared: 0,
+        },
+    }
+}
+
+// What is told of the GRAB that counts.
+pub struct GrabTold {
+    pub number: usize,
+    pub place: usize,
+    pub grab: HotSpot,
+    pub origin: usize,
+    pub shared: usize,
+}
+
+pub fn grab_told(v: PictureAnswer) -> GrabTold
+    ensures { λ r. ⌜ r ≡ grabTold v ⌝ }
+{
+    match v {
+        PictureAnswer::Shown(p) => {
+            let grab = p.grab;
+            let o = p.grab_from;
+            GrabTold {
+                number: 0,
+                place: 0,
+                grab,
+                origin: origin_number(o),
+                shared: shared_place(o),
+            }
+        }
+        PictureAnswer::Refused { number, place } => GrabTold {
+            number,
+            place,
+            grab: HotSpot { x: 0, y: 0 },
+            origin: 0,
+            shared: 0,
+        },
+    }
+}
+
+// What is told of the DEST that counts.
+pub struct DestinationTold {
+    pub number: usize,
+    pub place: usize,
+    pub destination: Destination,
+    pub origin: usize,
+    pub shared: usize,
+}
+
+pub fn destination_told(v: PictureAnswer) -> DestinationTold
+    ensures { λ r. ⌜ r ≡ destinationTold v ⌝ }
+{
+    match v {
+        PictureAnswer::Shown(p) => {
+            let destination = p.destination;
+            let o = p.destination_from;
+            DestinationTold {
+                number: 0,
+                place: 0,
+                destination,
+                origin: origin_number(o),
+                shared: shared_place(o),
+            }
+        }
+        PictureAnswer::Refused { number, place } => DestinationTold {
+            number,
+            place,
+            destination: Destination {
+                depth: 0,
+                pad1: 0,
+                plane_pick: 0,
+                plane_on_off: 0,
+                plane_mask: 0,
+            },
+            origin: 0,
+            shared: 0,
+        },
+    }
+}
+
+// What is told of the SPRT that counts.
+pub struct SpriteTold {
+    pub number: usize,
+    pub place: usize,
+    pub sprite: u16,
+    pub origin: usize,
+    pub shared: usize,
+}
+
+pub fn sprite_told(v: PictureAnswer) -> SpriteTold
+    ensures { λ r. ⌜ r ≡ spriteTold v ⌝ }
+{
+    match v {
+        PictureAnswer::Shown(p) => {
+            let sprite = p.sprite;
+            let o = p.sprite_from;
+            SpriteTold {
+                number: 0,
+                place: 0,
+                sprite,
+                origin: origin_number(o),
+                shared: shared_place(o),
+            }
+        }
+        PictureAnswer::Refused { number, place } => SpriteTold {
+            number,
+            place,
+            sprite: 0,
+            origin: 0,
+            shared: 0,
+        },
+    }
+}
+
+// What is told of the CAMG that counts.
+pub struct ViewModeTold {
+    pub number: usize,
+    pub place: usize,
+    pub view_mode: u32,
+    pub origin: usize,
+    pub shared: usize,
+}
+
+pub fn view_mode_told(v: PictureAnswer) -> ViewModeTold
+    ensures { λ r. ⌜ r ≡ viewModeTold v ⌝ }
+{
+    match v {
+        PictureAnswer::Shown(p) => {
+            let view_mode = p.view_mode;
+            let o = p.view_mode_from;
+            ViewModeTold {
+                number: 0,
+                place: 0,
+                view_mode,
+                origin: origin_number(o),
+                shared: shared_place(o),
+            }
+        }
+        PictureAnswer::Refused { number, place } => ViewModeTold {
+            number,
+            place,
+            view_mode: 0,
+            origin: 0,
+            shared: 0,
+        },
+    }
+}

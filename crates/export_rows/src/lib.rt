@@ -1,0 +1,70 @@
+// The exported calls on a picture's scan lines: 0 or the number of a refusal, and 0 for what else is told but its place.
+use ilbm_spec::FrameAnswer;
+use ilbm_spec::LineAnswer;
+ghost use mathlib.Core.Path.{_≡_};
+ghost use lib.ListN.{length};
+ghost use Rattle.ilbm_spec.specs.Rows.{lineOf, frameOf, lineAnswer, frameAnswer, written};
+ghost use Rattle.export_rows.specs.Rows.{lineTold, frameTold};
+
+// The colour numbers of a scan line, from a place of the picture's BODY; the row has w bytes.
+#[no_mangle]
+pub extern "C" fn ilbm_line(
+    file: &[u8],
+    number: usize,
+    start: usize,
+    row: &mut [u8],
+    place: &mut usize,
+    next: &mut usize,
+) -> usize
+    ensures told { λ r. ⌜ record { number = r; place = now (place .exit); value = now (next .exit) }
+        ≡ lineTold (lineAnswer (lineOf (now (file .entry)) number start (length (now (row .entry))))) ⌝ }
+    ensures bytes { λ _. ⌜ now (row .exit) ≡ written (lineOf (now (file .entry)) number start (length (now (row .entry)))) (now (row .entry)) ⌝ }
+{
+    let v = ilbm_rows::scan_line(file, number, start, row);
+    match v {
+        LineAnswer::Next(q) => {
+            *place = 0;
+            *next = q;
+            0
+        }
+        LineAnswer::Refused {
+            number: n,
+            place: p,
+        } => {
+            *place = p;
+            *next = 0;
+            n
+        }
+    }
+}
+
+// The colour numbers of all scan lines, and how many bytes of the BODY are left; the frame has w times h bytes.
+#[no_mangle]
+pub extern "C" fn ilbm_frame(
+    file: &[u8],
+    number: usize,
+    frame: &mut [u8],
+    place: &mut usize,
+    leftover: &mut usize,
+) -> usize
+    ensures told { λ r. ⌜ record { number = r; place = now (place .exit); value = now (leftover .exit) }
+        ≡ frameTold (frameAnswer (frameOf (now (file .entry)) number (length (now (frame .entry))))) ⌝ }
+    ensures bytes { λ _. ⌜ now (frame .exit) ≡ written (frameOf (now (file .entry)) number (length (now (frame .entry)))) (now (frame .entry)) ⌝ }
+{
+    let v = ilbm_rows::whole_frame(file, number, frame);
+    match v {
+        FrameAnswer::Leftover(n) => {
+            *place = 0;
+            *leftover = n;
+            0
+        }
+        FrameAnswer::Refused {
+            number: n,
+            place: p,
+        } => {
+            *place = p;
+            *leftover = 0;
+            n
+        }
+    }
+}

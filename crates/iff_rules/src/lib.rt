@@ -1,0 +1,108 @@
+// The rules of what may stand where.
+use iff_name::Kind;
+use iff_name::Name;
+ghost use mathlib.Core.Path.{_≡_};
+ghost use Rattle.iff_name.specs.Name.{kindOf};
+ghost use Rattle.iff_rules.specs.Rules.{
+  isGroup,
+  isSection,
+  allowed,
+  misplaced,
+  inside,
+  after,
+  groupType,
+};
+ghost use Rattle.iff_rules.specs.Rank.{rank};
+
+// Where a chunk stands: by itself, in a FORM, in a PROP, in a LIST with no FORM, LIST or CAT before it,
+// or in a CAT or the rest of a LIST.
+pub enum Position {
+    Outermost,
+    InForm,
+    InProp,
+    InList,
+    InCat,
+}
+
+// A kind as a number: FORM, LIST, CAT, PROP, FILLER and LOCAL from 0 on. Most rules compare it.
+fn rank(k: Kind) -> u32
+    ensures { λ r. ⌜ r ≡ rank k ⌝ }
+{
+    match k {
+        Kind::FORM => 0,
+        Kind::LIST => 1,
+        Kind::CAT => 2,
+        Kind::PROP => 3,
+        Kind::FILLER => 4,
+        Kind::LOCAL => 5,
+    }
+}
+
+pub fn is_group(k: Kind) -> bool
+    ensures { λ r. ⌜ r ≡ isGroup k ⌝ }
+{
+    rank(k) <= 3
+}
+
+pub fn is_section(k: Kind) -> bool
+    ensures { λ r. ⌜ r ≡ isSection k ⌝ }
+{
+    rank(k) <= 2
+}
+
+fn allowed(w: Position, k: Kind) -> bool
+    ensures { λ r. ⌜ r ≡ allowed w k ⌝ }
+{
+    let n = rank(k);
+    match w {
+        Position::Outermost => n <= 2,
+        Position::InForm => n != 3,
+        Position::InProp => 4 <= n,
+        Position::InList => n <= 4,
+        Position::InCat => (n != 3) & (n <= 4),
+    }
+}
+
+pub fn misplaced(w: Position, n: Name, k: Kind) -> bool
+    requires { ⌜ k ≡ kindOf (n .code) ⌝ }
+    ensures { λ r. ⌜ r ≡ misplaced w (n .code) ⌝ }
+{
+    (n.code == Name::JJJJ.code) | !allowed(w, k)
+}
+
+pub fn inside(k: Kind) -> Position
+    ensures { λ r. ⌜ r ≡ inside k ⌝ }
+{
+    match k {
+        Kind::LIST => Position::InList,
+        Kind::CAT => Position::InCat,
+        Kind::PROP => Position::InProp,
+        Kind::FORM | Kind::FILLER | Kind::LOCAL => Position::InForm,
+    }
+}
+
+pub fn after(w: Position, k: Kind) -> Position
+    ensures { λ r. ⌜ r ≡ after w k ⌝ }
+{
+    match w {
+        Position::InList => {
+            if is_section(k) {
+                Position::InCat
+            } else {
+                Position::InList
+            }
+        }
+        _ => w,
+    }
+}
+
+pub fn group_type(k: Kind, t: Name) -> bool
+    ensures { λ r. ⌜ r ≡ groupType k (t .code) ⌝ }
+{
+    let n = rank(k);
+    if (n == 0) | (n == 3) {
+        t.is_type()
+    } else {
+        (n <= 2) & t.is_well_formed()
+    }
+}

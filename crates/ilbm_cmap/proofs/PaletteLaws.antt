@@ -1,0 +1,75 @@
+-- The palette's part of the file: the data of the CMAP that counts at its place, nothing where none counts, empty after a refusal.
+use Prim.Native.Nat.{ℕ, _+_, _-_, _≤_}
+use mathlib.Core.Path.{_≡_, refl, sym, _∙_}
+use mathlib.Core.List.{List}
+use lib.ListN.{length, take, drop}
+use native.Mathlib.Omega.{arith}
+use Rattle.ilbm_spec.specs.Contents.{Property, own, shared, absent}
+use Rattle.ilbm_spec.specs.Places.{placeOf}
+use Rattle.ilbm_spec.specs.Pictures.{unseen, viewOf, paletteFrom}
+use Rattle.ilbm_spec.specs.Palette.{sourceFrom, pointer}
+use Rattle.ilbm_members.specs.Members.{fromOf}
+use Rattle.ilbm_members.specs.declared.Part.{Part}
+use Rattle.ilbm_members.specs.declared.Part.the-variants.{Nothing, Between}
+use Rattle.ilbm_content.specs.declared.Held.{Held}
+use Rattle.ilbm_content.specs.declared.Contents.{Contents}
+use Rattle.ilbm_content.specs.Held.{HeldIs}
+use Rattle.ilbm_find.specs.declared.View.{View}
+use Rattle.ilbm_find.specs.declared.View.the-variants.{Seen, Unseen}
+use Rattle.ilbm_find.specs.Seen.{ViewIs, Begins, Placed}
+use Rattle.ilbm_faults.proofs.FaultLaws.{held-data, data-taken}
+use Rattle.ilbm_cmap.specs.Parts.{PartIn, partOr, partAt, ColoursAre}
+
+-- the part of a property, or the default: its bytes, where it begins, and that it lies inside
+part-is : (s : List ℕ) (h : Held) (q : Property) (p : Part) (default : List ℕ) → HeldIs s h q → h .part ≡ p → partOr s p default ≡ paletteFrom q default
+part-is s h (own d) Nothing default k i = absurd (rw i at (k .1))
+part-is s h (own d) (Between a b) default k i = data-taken s h (own d) a b k i
+part-is s h (shared q d) Nothing default k i = absurd (rw i at (k .1))
+part-is s h (shared q d) (Between a b) default k i = data-taken s h (shared q d) a b k i
+part-is s h absent Nothing default k i = refl
+part-is s h absent (Between a b) default k i = absurd (let j : Nothing ≡ Between a b = sym (k .1) ∙ i in let z : _≡_ {A = ℕ} 0 1 = cc in omega arith)
+
+part-lies :
+    (s : List ℕ) (h : Held) (q : Property) (p : Part) (file default : ℕ × ℕ) → HeldIs s h q → h .part ≡ p →
+    partAt file p default ≡ pointer (sourceFrom q (fromOf p)) file default
+part-lies s h (own d) Nothing file default k i = absurd (rw i at (k .1))
+part-lies s h (own d) (Between a b) file default k i = refl
+part-lies s h (shared q d) Nothing file default k i = absurd (rw i at (k .1))
+part-lies s h (shared q d) (Between a b) file default k i = refl
+part-lies s h absent Nothing file default k i = refl
+part-lies s h absent (Between a b) file default k i = absurd (let j : Nothing ≡ Between a b = sym (k .1) ∙ i in let z : _≡_ {A = ℕ} 0 1 = cc in omega arith)
+
+part-in : (s : List ℕ) (h : Held) (q : Property) (p : Part) → HeldIs s h q → h .part ≡ p → PartIn s p
+part-in s h q Nothing k i = tt
+part-in s h q (Between a b) k i = let w = held-data s h q a b k i in (omega (arith, w .1), w .2)
+
+-- a part that lies inside the file
+module _ (s : List ℕ) (p : Part) (a b : ℕ) (i : p ≡ Between a b) where
+  pub part-order : PartIn s p → a ≤ b
+  part-order x = let y : PartIn s (Between a b) = rw i at x in y .0
+
+  pub part-inside : PartIn s p → b ≤ length s
+  part-inside x = let y : PartIn s (Between a b) = rw i at x in y .1
+
+  pub part-taken : (default : List ℕ) → take (b - a) (drop a s) ≡ partOr s p default
+  part-taken default = rw i
+
+pub part-placed : (file default : ℕ × ℕ) (p : Part) (a b : ℕ) → p ≡ Between a b → (file .0, a + file .1) ≡ partAt file p default
+part-placed file default p a b i = rw i
+
+-- from the view to the colours
+module _ (s : List ℕ) (i : ℕ) (v : View) (w : ViewIs s v (viewOf s i)) where
+  pub colours-seen : Placed s i v → (c : Contents) → v ≡ Seen c → ColoursAre s i (record { number = 0; place = 0; part = c .cmap .part })
+  colours-seen at c j =
+      let (x, e, k, f) : ViewIs s (Seen c) (viewOf s i) = rw j at w in
+      let y : Begins (Seen c) (λ name. placeOf s i name) = rw j at (at .at) in
+      record {
+        told = λ default. rw (e, part-is s (c .cmap) (x .cmap) (c .cmap .part) default (k .cmap) refl);
+        lies = λ file default. rw (e, ← y .cmap) (part-lies s (c .cmap) (x .cmap) (c .cmap .part) file default (k .cmap) refl);
+        inside = part-in s (c .cmap) (x .cmap) (c .cmap .part) (k .cmap) refl;
+      }
+
+  pub colours-unseen : (k p : ℕ) → v ≡ Unseen k p → ColoursAre s i (record { number = k; place = p; part = Between 0 0 })
+  colours-unseen k p j =
+      let e : viewOf s i ≡ unseen k p = rw j at w in
+      record { told = λ default. rw e; lies = λ file default. rw e; inside = (omega arith, omega arith) }

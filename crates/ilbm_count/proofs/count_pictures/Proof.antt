@@ -1,0 +1,33 @@
+-- What the check accepts is sound, so that it can be counted; what it refuses is passed on.
+use mathlib.Core.Path.{sym, _∙_}
+use native.Mathlib.Omega.{arith}
+use Rattle.iff_walk.specs.Coming.{accepted-sound}
+use Rattle.ilbm_count.proofs.Laws.{count-refused}
+use borrow.Author.Needs.{needs}
+use Rattle.ilbm_count.proofs.count_pictures.Statement.{statement}
+use Rattle.ilbm_count.proofs.count_pictures.Tie as tie
+
+check-requires : tie.Need-check-requires
+check-requires c κs = search needs
+
+enum-known-v : tie.Need-enum-known-v
+enum-known-v c = search needs
+
+count-sound-requires : tie.Need-count-sound-requires
+count-sound-requires c κs =
+    accepted-sound _ (λ i. omega (arith, c .before .before .before .before .shared-slice-known .given i)) _ _ _
+    (sym (c .before .before .before .check .ensures) ∙ c .before .v .given .1)
+
+enum-known-v-2 : tie.Need-enum-known-v-2
+enum-known-v-2 c = search needs
+
+returns : tie.Need-returns
+returns c = search needs
+
+returns-2 : tie.Need-returns-2
+returns-2 c = search (count-refused, needs)
+
+pub count-pictures-spec : {M : Type 1} → statement M
+count-pictures-spec =
+    tie.close
+    (tie.spec check-requires enum-known-v count-sound-requires enum-known-v-2 returns returns-2)

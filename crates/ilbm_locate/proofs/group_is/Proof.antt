@@ -1,0 +1,42 @@
+-- Only a group has a type, 8 bytes behind its place; name and type are then compared.
+use Rattle.ilbm_locate.proofs.Laws.{name-room, type-room, group-tested, leaf-tested}
+use borrow.Author.Needs.{needs}
+use Rattle.ilbm_locate.proofs.group_is.Statement.{statement}
+use Rattle.ilbm_locate.proofs.group_is.Tie as tie
+
+name-at-requires : tie.Need-name-at-requires
+name-at-requires c κs = search (name-room, needs)
+
+kind-requires : tie.Need-kind-requires
+kind-requires c κs = search needs
+
+is-group-requires : tie.Need-is-group-requires
+is-group-requires c κs = search needs
+
+add-name-at : tie.Need-add-name-at
+add-name-at c = search needs
+
+name-at-requires-2 : tie.Need-name-at-requires-2
+name-at-requires-2 c κs = search (type-room, needs)
+
+is-a-requires : tie.Need-is-a-requires
+is-a-requires c κs = search needs
+
+returns : tie.Need-returns
+returns c = search (group-tested, needs)
+
+returns-2 : tie.Need-returns-2
+returns-2 c = search (leaf-tested, needs)
+
+pub group-is-spec : {M : Type 1} → statement M
+group-is-spec =
+    tie.close
+    (tie.spec
+    name-at-requires
+    kind-requires
+    is-group-requires
+    add-name-at
+    name-at-requires-2
+    is-a-requires
+    returns
+    returns-2)

@@ -1,0 +1,104 @@
+// The plane rows of a BODY: judged with no byte written, and written as a scan line once they are known to be sound.
+use byterun_row::RowAnswer;
+use byterun_row::judge_row;
+use ilbm_gather::gather;
+use byterun_unpack::write_row;
+ghost use mathlib.Core.Path.{_≡_};
+ghost use Prim.Native.Nat.{_+_, _*_, _≤_};
+ghost use lib.ListN.{length};
+ghost use Rattle.iff_name.specs.Name.{pick};
+ghost use Rattle.ilbm_spec.specs.Rows.{rowLength, read, rowsFrom};
+ghost use Rattle.ilbm_gather.specs.Buffer.{rowsIn};
+ghost use Rattle.ilbm_plane_rows.specs.Scan.{told, IsRead, lineBy};
+
+// The next place, or the number and place of a fault.
+pub enum Scanned {
+    Next(usize),
+    Fault { number: usize, place: usize },
+}
+
+// The bytes of a plane row.
+pub fn row_length(w: usize) -> usize
+    requires { ⌜ w ≤ 65535 ⌝ }
+    ensures { λ r. ⌜ (r ≡ rowLength w) × (r ≤ 8192) × (w ≤ r * 8) ⌝ }
+{
+    2 * ((w + 15) / 16)
+}
+
+// The rows of a scan line: one for each plane, and the mask row.
+pub fn row_count(planes: usize, masked: bool) -> usize
+    requires { ⌜ planes ≤ 8 ⌝ }
+    ensures { λ r. ⌜ (r ≡ planes + pick masked 1 0) × (planes ≤ r) × (r ≤ 9) ⌝ }
+{
+    if masked { planes + 1 } else { planes }
+}
+
+// Steps from row to row, with no byte written.
+pub fn judge_rows(body: &[u8], at: usize, n: usize, rows: usize, compression: u8) -> Scanned
+    ensures { λ r. ⌜ r ≡ told (rowsFrom compression (now (body .entry)) n rows at) ⌝ }
+{
+    let mut q = at;
+    let mut k = 0;
+    while k < rows {
+        let answer = judge_row(body, q, n, compression);
+        match answer {
+            RowAnswer::Full(next) => {
+                q = next;
+                k = k + 1;
+            }
+            RowAnswer::Oversteps(place) => {
+                return Scanned::Fault { number: 27, place };
+            }
+            RowAnswer::Ends(place) => {
+                return Scanned::Fault { number: 26, place };
+            }
+        }
+    }
+    Scanned::Next(q)
+}
+
+// Writes rows that are known to be sound into the buffer, one after the other, and returns the place after them.
+fn write_rows(
+    body: &[u8],
+    at: usize,
+    n: usize,
+    rows: usize,
+    compression: u8,
+    buffer: &mut [u8],
+) -> usize
+    requires { ⌜ rows * n ≤ length (now buffer) ⌝ }
+    requires { ⌜ IsRead (rowsFrom compression (now body) n rows at) ⌝ }
+    ensures { λ r. ⌜ rowsFrom compression (now (body .entry)) n rows at ≡ read (rowsIn n rows 0 (now (buffer .exit))) r ⌝ }
+{
+    let mut q = at;
+    let mut k = 0;
+    while k < rows {
+        let from = k * n;
+        let to = from + n;
+        q = write_row(body, q, compression, &mut buffer[from..to]);
+        k = k + 1;
+    }
+    q
+}
+
+// Writes a scan line that is known to be sound, and returns the place after it.
+pub fn write_line(
+    body: &[u8],
+    at: usize,
+    w: usize,
+    planes: usize,
+    rows: usize,
+    compression: u8,
+    buffer: &mut [u8],
+    row: &mut [u8],
+) -> usize
+    requires { ⌜ (w ≤ 65535) × (planes ≤ 8) × (planes ≤ rows) ⌝ }
+    requires { ⌜ (rows * rowLength w ≤ length (now buffer)) × (length (now row) ≡ w) ⌝ }
+    requires { ⌜ IsRead (rowsFrom compression (now body) (rowLength w) rows at) ⌝ }
+    ensures { λ r. ⌜ lineBy compression w planes rows (now (body .entry)) at ≡ read (now (row .exit)) r ⌝ }
+{
+    let n = row_length(w);
+    let next = write_rows(body, at, n, rows, compression, buffer);
+    gather(buffer, n, planes, row);
+    next
+}

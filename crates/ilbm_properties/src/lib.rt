@@ -1,0 +1,137 @@
+// The picture call.
+use ilbm_content::Contents;
+use ilbm_content::Held;
+use ilbm_fields::bitmap_header;
+use ilbm_fields::dest_fields;
+use ilbm_fields::grab_fields;
+use ilbm_fields::long_at;
+use ilbm_fields::word_at;
+use ilbm_spec::BitmapHeader;
+use ilbm_spec::Destination;
+use ilbm_spec::HotSpot;
+use ilbm_spec::Picture;
+use ilbm_spec::PictureAnswer;
+use ilbm_members::Part;
+use ilbm_find::View;
+use ilbm_find::view_picture;
+ghost use mathlib.Core.Path.{_≡_};
+ghost use Rattle.ilbm_spec.specs.Pictures.{pictureOf};
+ghost use Rattle.ilbm_properties.specs.Told.{OfSize, Judged, HeaderTold, GrabTold, DestinationTold, WordTold, LongTold, PictureTold};
+
+// The fields of BMHD, 0 if it is absent.
+pub fn header_of(s: &[u8], h: Held) -> BitmapHeader
+    requires { ⌜ OfSize (now s) h 20 ⌝ }
+    ensures { λ r. ⌜ HeaderTold (now (s .entry)) h r ⌝ }
+{
+    let part = h.part;
+    match part {
+        Part::Nothing => BitmapHeader {
+            w: 0,
+            h: 0,
+            x: 0,
+            y: 0,
+            planes: 0,
+            masking: 0,
+            compression: 0,
+            pad1: 0,
+            transparent: 0,
+            x_aspect: 0,
+            y_aspect: 0,
+            page_width: 0,
+            page_height: 0,
+        },
+        Part::Between(from, to) => bitmap_header(&s[from..to]),
+    }
+}
+
+fn grab_of(s: &[u8], h: Held) -> HotSpot
+    requires { ⌜ OfSize (now s) h 4 ⌝ }
+    ensures { λ r. ⌜ GrabTold (now (s .entry)) h r ⌝ }
+{
+    let part = h.part;
+    match part {
+        Part::Nothing => HotSpot { x: 0, y: 0 },
+        Part::Between(from, to) => grab_fields(&s[from..to]),
+    }
+}
+
+fn destination_of(s: &[u8], h: Held) -> Destination
+    requires { ⌜ OfSize (now s) h 8 ⌝ }
+    ensures { λ r. ⌜ DestinationTold (now (s .entry)) h r ⌝ }
+{
+    let part = h.part;
+    match part {
+        Part::Nothing => Destination {
+            depth: 0,
+            pad1: 0,
+            plane_pick: 0,
+            plane_on_off: 0,
+            plane_mask: 0,
+        },
+        Part::Between(from, to) => dest_fields(&s[from..to]),
+    }
+}
+
+fn word_of(s: &[u8], h: Held) -> u16
+    requires { ⌜ OfSize (now s) h 2 ⌝ }
+    ensures { λ r. ⌜ WordTold (now (s .entry)) h r ⌝ }
+{
+    let part = h.part;
+    match part {
+        Part::Nothing => 0,
+        Part::Between(from, to) => word_at(&s[from..to], 0),
+    }
+}
+
+fn long_of(s: &[u8], h: Held) -> u32
+    requires { ⌜ OfSize (now s) h 4 ⌝ }
+    ensures { λ r. ⌜ LongTold (now (s .entry)) h r ⌝ }
+{
+    let part = h.part;
+    match part {
+        Part::Nothing => 0,
+        Part::Between(from, to) => long_at(&s[from..to], 0),
+    }
+}
+
+fn picture_from(s: &[u8], c: Contents) -> Picture
+    requires { ⌜ Judged (now s) c ⌝ }
+    ensures { λ r. ⌜ PictureTold (now (s .entry)) c r ⌝ }
+{
+    let bmhd = c.bmhd;
+    let cmap = c.cmap;
+    let grab = c.grab;
+    let dest = c.dest;
+    let sprt = c.sprt;
+    let camg = c.camg;
+    let header_from = bmhd.origin;
+    let palette_from = cmap.origin;
+    let grab_from = grab.origin;
+    let destination_from = dest.origin;
+    let sprite_from = sprt.origin;
+    let view_mode_from = camg.origin;
+    Picture {
+        header: header_of(s, bmhd),
+        header_from,
+        palette_from,
+        grab: grab_of(s, grab),
+        grab_from,
+        destination: destination_of(s, dest),
+        destination_from,
+        sprite: word_of(s, sprt),
+        sprite_from,
+        view_mode: long_of(s, camg),
+        view_mode_from,
+    }
+}
+
+// The properties of picture i with their origins, or a refusal.
+pub fn picture(s: &[u8], i: usize) -> PictureAnswer
+    ensures { λ r. ⌜ r ≡ pictureOf (now (s .entry)) i ⌝ }
+{
+    let v = view_picture(s, i);
+    match v {
+        View::Seen(c) => PictureAnswer::Shown(picture_from(s, c)),
+        View::Unseen(number, place) => PictureAnswer::Refused { number, place },
+    }
+}

@@ -1,0 +1,28 @@
+-- Without a BODY it is 25; with one, `body_frame` has the answer.
+use borrow.Author.Needs.{needs}
+use Rattle.ilbm_rows.proofs.Laws.{frame-25}
+use Rattle.ilbm_rows.proofs.picture_frame.Statement.{statement}
+use Rattle.ilbm_rows.proofs.picture_frame.Tie as tie
+
+enum-told : tie.Need-enum-told
+enum-told c = search needs
+
+enum-known-body : tie.Need-enum-known-body
+enum-known-body c = search needs
+
+body-frame-requires : tie.Need-body-frame-requires
+body-frame-requires c κs = search needs
+
+returns : tie.Need-returns
+returns c = search (frame-25, needs)
+
+same-length : tie.Need-same-length
+same-length c = search needs
+
+returns-2 : tie.Need-returns-2
+returns-2 c = search needs
+
+pub picture-frame-spec : {M : Type 1} → statement M
+picture-frame-spec =
+    tie.close
+    (tie.spec enum-told enum-known-body body-frame-requires returns same-length returns-2)

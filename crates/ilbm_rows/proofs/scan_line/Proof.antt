@@ -1,0 +1,40 @@
+-- A picture that is seen was judged; a refusal is passed on and leaves the row.
+use borrow.Author.Needs.{needs}
+use Rattle.ilbm_rows.proofs.Laws.{seen-judged, line-seen, line-unseen}
+use Rattle.ilbm_rows.proofs.scan_line.Statement.{statement}
+use Rattle.ilbm_rows.proofs.scan_line.Tie as tie
+
+view-picture-requires : tie.Need-view-picture-requires
+view-picture-requires c κs = tt
+
+enum-known-v : tie.Need-enum-known-v
+enum-known-v c = search needs
+
+picture-line-requires : tie.Need-picture-line-requires
+picture-line-requires c κs = search (seen-judged, needs)
+
+enum-known-v-2 : tie.Need-enum-known-v-2
+enum-known-v-2 c = search needs
+
+same-length : tie.Need-same-length
+same-length c = search needs
+
+returns : tie.Need-returns
+returns c =
+    line-seen _ _ _ (c .before .before .before .before .before .before .before .view-picture .ensures .0) _ _ _ _ _ (c .before .before .before .before .before .v .given .1)
+    (c .before .before .picture-line .ensures)
+
+returns-2 : tie.Need-returns-2
+returns-2 c = line-unseen _ _ _ (c .before .before .before .view-picture .ensures .0) _ _ _ _ (c .before .v2 .given .1)
+
+pub scan-line-spec : {M : Type 1} → statement M
+scan-line-spec =
+    tie.close
+    (tie.spec
+    view-picture-requires
+    enum-known-v
+    picture-line-requires
+    enum-known-v-2
+    same-length
+    returns
+    returns-2)

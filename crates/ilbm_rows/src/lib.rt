@@ -1,0 +1,68 @@
+// The scan line and the frame of a picture.
+use ilbm_body_rows::body_frame;
+use ilbm_body_rows::body_line;
+use ilbm_content::Contents;
+use ilbm_spec::FrameAnswer;
+use ilbm_spec::LineAnswer;
+use ilbm_members::Part;
+use ilbm_find::View;
+use ilbm_find::view_picture;
+ghost use mathlib.Core.Path.{_≡_};
+ghost use lib.ListN.{length};
+ghost use Rattle.ilbm_spec.specs.Rows.{lineOf, frameOf, lineAnswer, frameAnswer, written};
+ghost use Rattle.ilbm_properties.specs.Told.{Judged};
+ghost use Rattle.ilbm_body_rows.specs.Lines.{LineDone, FrameDone};
+
+// A scan line of a picture that is not refused.
+fn picture_line(s: &[u8], c: Contents, start: usize, row: &mut [u8]) -> LineAnswer
+    requires { ⌜ Judged (now s) c ⌝ }
+    ensures { λ r. ⌜ LineDone (now (s .entry)) c start (now (row .entry)) r (now (row .exit)) ⌝ }
+{
+    let body = c.body;
+    match body {
+        Part::Nothing => LineAnswer::Refused {
+            number: 25,
+            place: 0,
+        },
+        Part::Between(a, b) => body_line(s, c, a, b, start, row),
+    }
+}
+
+// The colour numbers of a scan line of picture i, from a place of its BODY, and the next place; a refusal leaves the row as it was.
+pub fn scan_line(s: &[u8], i: usize, start: usize, row: &mut [u8]) -> LineAnswer
+    ensures told { λ r. ⌜ r ≡ lineAnswer (lineOf (now (s .entry)) i start (length (now (row .entry)))) ⌝ }
+    ensures bytes { λ _. ⌜ now (row .exit) ≡ written (lineOf (now (s .entry)) i start (length (now (row .entry)))) (now (row .entry)) ⌝ }
+{
+    let v = view_picture(s, i);
+    match v {
+        View::Seen(c) => picture_line(s, c, start, row),
+        View::Unseen(number, place) => LineAnswer::Refused { number, place },
+    }
+}
+
+// The frame of a picture that is not refused.
+fn picture_frame(s: &[u8], c: Contents, frame: &mut [u8]) -> FrameAnswer
+    requires { ⌜ Judged (now s) c ⌝ }
+    ensures { λ r. ⌜ FrameDone (now (s .entry)) c (now (frame .entry)) r (now (frame .exit)) ⌝ }
+{
+    let body = c.body;
+    match body {
+        Part::Nothing => FrameAnswer::Refused {
+            number: 25,
+            place: 0,
+        },
+        Part::Between(a, b) => body_frame(s, c, a, b, frame),
+    }
+}
+
+// The colour numbers of all scan lines of picture i, and how many bytes of the BODY are left; a refusal leaves the frame as it was.
+pub fn whole_frame(s: &[u8], i: usize, frame: &mut [u8]) -> FrameAnswer
+    ensures told { λ r. ⌜ r ≡ frameAnswer (frameOf (now (s .entry)) i (length (now (frame .entry)))) ⌝ }
+    ensures bytes { λ _. ⌜ now (frame .exit) ≡ written (frameOf (now (s .entry)) i (length (now (frame .entry)))) (now (frame .entry)) ⌝ }
+{
+    let v = view_picture(s, i);
+    match v {
+        View::Seen(c) => picture_frame(s, c, frame),
+        View::Unseen(number, place) => FrameAnswer::Refused { number, place },
+    }
+}

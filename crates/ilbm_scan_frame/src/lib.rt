@@ -1,0 +1,76 @@
+// A frame of a BODY: every plane row is judged before the first byte is written.
+use ilbm_plane_rows::Scanned;
+use ilbm_plane_rows::judge_rows;
+use ilbm_plane_rows::row_count;
+use ilbm_plane_rows::row_length;
+use ilbm_plane_rows::write_line;
+ghost use mathlib.Core.Path.{_≡_};
+ghost use Prim.Native.Nat.{_+_, _*_, _≤_};
+ghost use lib.ListN.{length};
+ghost use Rattle.iff_name.specs.Name.{pick};
+ghost use Rattle.ilbm_spec.specs.Rows.{rowLength, read, written};
+ghost use Rattle.ilbm_plane_rows.specs.Scan.{told, IsRead, linesBy};
+
+// Writes scan lines that are known to be sound, one after the other, and returns the place after them.
+fn write_lines(
+    body: &[u8],
+    w: usize,
+    h: usize,
+    planes: usize,
+    rows: usize,
+    compression: u8,
+    buffer: &mut [u8],
+    frame: &mut [u8],
+) -> usize
+    requires { ⌜ (w ≤ 65535) × (planes ≤ 8) × (planes ≤ rows) ⌝ }
+    requires { ⌜ (rows * rowLength w ≤ length (now buffer)) × (length (now frame) ≡ w * h) ⌝ }
+    requires { ⌜ IsRead (linesBy compression w planes rows (now body) h 0) ⌝ }
+    ensures { λ r. ⌜ linesBy compression w planes rows (now (body .entry)) h 0 ≡ read (now (frame .exit)) r ⌝ }
+{
+    let mut q = 0;
+    let mut y = 0;
+    while y < h {
+        let from = y * w;
+        let to = from + w;
+        q = write_line(
+            body,
+            q,
+            w,
+            planes,
+            rows,
+            compression,
+            buffer,
+            &mut frame[from..to],
+        );
+        y = y + 1;
+    }
+    q
+}
+
+// The h scan lines of a frame from the BODY's start.
+pub fn scan_frame(
+    body: &[u8],
+    w: usize,
+    h: usize,
+    planes: usize,
+    masked: bool,
+    compression: u8,
+    frame: &mut [u8],
+) -> Scanned
+    requires { ⌜ (w ≤ 65535) × (h ≤ 65535) × (planes ≤ 8) ⌝ }
+    requires { ⌜ length (now frame) ≡ w * h ⌝ }
+    ensures is { λ r. ⌜ r ≡ told (linesBy compression w planes (planes + pick masked 1 0) (now (body .entry)) h 0) ⌝ }
+    ensures bytes { λ _. ⌜ now (frame .exit) ≡ written (linesBy compression w planes (planes + pick masked 1 0) (now (body .entry)) h 0) (now (frame .entry)) ⌝ }
+{
+    let n = row_length(w);
+    let rows = row_count(planes, masked);
+    let judged = judge_rows(body, 0, n, h * rows, compression);
+    match judged {
+        Scanned::Next(end) => {
+            let mut buffer = [0u8; 73728];
+            write_lines(body, w, h, planes, rows, compression, &mut buffer, frame);
+            Scanned::Next(end)
+        }
+        Scanned::Fault { number, place } => Scanned::Fault { number, place },
+    }
+}

@@ -1,0 +1,120 @@
+-- 01 "Rows": the scan line and the frame of a picture.
+use Prim.Native.Nat.{ℕ, zero, suc, _+_, _-_, _*_, _/_, _%_, _^_}
+use mathlib.Core.Bool.{not}
+use mathlib.Core.List.{List, [], _∷_, _++_}
+use lib.Dec.{ltb, eqb}
+use lib.ListN.{length, getD, take}
+use Rattle.iff_name.specs.Name.{pick}
+use Rattle.byterun_row.specs.ByteRun.{Row, filled, over, short, rowOf}
+use Rattle.ilbm_spec.specs.declared.BitmapHeader.{BitmapHeader}
+use Rattle.ilbm_spec.specs.declared.LineAnswer.{LineAnswer}
+use Rattle.ilbm_spec.specs.declared.LineAnswer.the-variants.{Next, Refused}
+use Rattle.ilbm_spec.specs.declared.FrameAnswer.{FrameAnswer}
+use Rattle.ilbm_spec.specs.declared.FrameAnswer.the-variants.{Leftover, Refused as Frame-refused}
+use Rattle.ilbm_spec.specs.Pictures.{Viewed, viewed, unseen, viewOf, dataOf, headerIn}
+
+-- "A plane row is 2 * floor((w+15)/16) bytes."
+abbrev pub rowLength : ℕ → ℕ
+rowLength w = 2 * ((w + 15) / 16)
+
+-- "A scan line is one row for each plane, plane 0 first, then a mask row if masking is 1"
+abbrev pub rowsInLine : BitmapHeader → ℕ
+rowsInLine b = b .planes + pick (eqb (b .masking) 1) 1 0
+
+-- What reading comes to: a value and the next place, or the number and place of a fault.
+pub data Read (A : Type 0) : Type 0 where
+  read : A → ℕ → Read A
+  fault : ℕ → ℕ → Read A
+
+abbrev pub thenRead : {A B : Type 0} → Read A → (A → ℕ → Read B) → Read B
+thenRead (read a q) f = f a q
+thenRead (fault k p) f = fault k p
+
+-- a plane row: 27 where a copy or repeat oversteps it, 26 where the BODY ends before it is full
+abbrev pub rowRead : Row → Read (List ℕ)
+rowRead (filled bs q) = read bs q
+rowRead (over q) = fault 27 q
+rowRead (short q) = fault 26 q
+
+-- so many plane rows of n bytes, one after the other: "Faults 26 and 27 are met in row order"
+unfoldable pub rowsFrom : ℕ → List ℕ → ℕ → ℕ → ℕ → Read (List (List ℕ))
+rowsFrom compression body n zero at = read [] at
+rowsFrom compression body n (suc rows) at =
+    thenRead (rowRead (rowOf compression body at n)) (λ bs q.
+    thenRead (rowsFrom compression body n rows q) (λ rest r. read (bs ∷ rest) r))
+
+-- "the bit 7 - (x mod 8) of byte floor(x/8)"
+abbrev pub bitAt : List ℕ → ℕ → ℕ
+bitAt row x = getD row (x / 8) 0 / 2 ^ (7 - x % 8) % 2
+
+-- "Pixel x has in plane k the bit .., with weight 2^k": the planes from the one of this weight on
+unfoldable pub colourBy : ℕ → ℕ → List (List ℕ) → ℕ
+colourBy weight x [] = 0
+colourBy weight x (row ∷ rows) = bitAt row x * weight + colourBy (weight * 2) x rows
+
+-- the colour numbers of n pixels from x on
+unfoldable pub coloursFrom : ℕ → ℕ → List (List ℕ) → List ℕ
+coloursFrom x zero planes = []
+coloursFrom x (suc n) planes = colourBy 1 x planes ∷ coloursFrom (suc x) n planes
+
+-- A scan line of a picture with this header, from a place of its BODY: the colour numbers and the next place. The mask row "must be
+-- sound, and is stepped over".
+abbrev pub lineFrom : BitmapHeader → List ℕ → ℕ → Read (List ℕ)
+lineFrom b body at =
+    thenRead (rowsFrom (b .compression) body (rowLength (b .w)) (rowsInLine b) at) (λ rows q.
+    read (coloursFrom 0 (b .w) (take (b .planes) rows)) q)
+
+-- so many scan lines, one after the other
+unfoldable pub linesFrom : BitmapHeader → List ℕ → ℕ → ℕ → Read (List ℕ)
+linesFrom b body zero at = read [] at
+linesFrom b body (suc lines) at =
+    thenRead (lineFrom b body at) (λ cs q. thenRead (linesFrom b body lines q) (λ rest r. read (cs ++ rest) r))
+
+-- Rows are asked of a picture: 25 for no BODY, and otherwise what `rows` says of its header and its BODY.
+abbrev pub onBody : List (List ℕ) → (List ℕ → Read (List ℕ)) → Read (List ℕ)
+onBody [] rows = fault 25 0
+onBody (body ∷ others) rows = rows body
+
+abbrev pub askRows : Viewed → (BitmapHeader → List ℕ → Read (List ℕ)) → Read (List ℕ)
+askRows (viewed c) rows = onBody (c .bodies) (λ body. rows (headerIn (dataOf (c .bmhd))) body)
+askRows (unseen k p) rows = fault k p
+
+-- 29: "start place beyond the BODY's end"; 28: "lent row not exactly w bytes"
+abbrev pub lineRead : Viewed → ℕ → ℕ → Read (List ℕ)
+lineRead v start room =
+    askRows v (λ b body.
+    pick (ltb (length body) start) (fault 29 0)
+    (pick (not (eqb room (b .w))) (fault 28 0)
+    (lineFrom b body start)))
+
+-- "a whole frame is h scan lines from place 0, with the leftover BODY bytes counted"; 28: "lent frame not w times h". The place
+-- after the last line becomes the count of what is left.
+abbrev pub leftover : ℕ → Read (List ℕ) → Read (List ℕ)
+leftover n (read cs q) = read cs (n - q)
+leftover n (fault k p) = fault k p
+
+abbrev pub frameRead : Viewed → ℕ → Read (List ℕ)
+frameRead v room =
+    askRows v (λ b body.
+    pick (not (eqb room (b .w * b .h))) (fault 28 0)
+    (leftover (length body) (linesFrom b body (b .h) 0)))
+
+-- what is told, and what stands in the lent row or frame afterwards: a refusal changes nothing
+abbrev pub lineAnswer : Read (List ℕ) → LineAnswer
+lineAnswer (read cs q) = Next q
+lineAnswer (fault k p) = Refused k p
+
+abbrev pub frameAnswer : Read (List ℕ) → FrameAnswer
+frameAnswer (read cs n) = Leftover n
+frameAnswer (fault k p) = Frame-refused k p
+
+abbrev pub written : Read (List ℕ) → List ℕ → List ℕ
+written (read cs q) old = cs
+written (fault k p) old = old
+
+-- The scan line of picture i from a place, and the frame of picture i, for a lent row or frame.
+abbrev pub lineOf : List ℕ → ℕ → ℕ → ℕ → Read (List ℕ)
+lineOf s i start room = lineRead (viewOf s i) start room
+
+abbrev pub frameOf : List ℕ → ℕ → ℕ → Read (List ℕ)
+frameOf s i room = frameRead (viewOf s i) room

@@ -1,0 +1,80 @@
+-- The three demands on the library, as theorems over the definitions that the contracts of the public calls cite.
+use Prim.Native.Nat.{ℕ, _<_, _≤_}
+use mathlib.Core.Path.{_≡_}
+use mathlib.Core.List.{List}
+use mathlib.Core.Logic.{_↔_}
+use lib.ListN.{length, take}
+use Rattle.iff_chunk.specs.Chunks.{Chunk, before, none, bytes, count}
+use Rattle.iff_tree.specs.Judge.{checkOf}
+use Rattle.iff_tree.specs.declared.Verdict.the-variants.{Accepted, Refused}
+use Rattle.iff_grammar.specs.Words.{Bytes}
+use Rattle.iff_grammar.specs.Grammar.{ChunkFile}
+use Rattle.iff_grammar.specs.Accept as Accept
+use Rattle.list_spec.specs.declared.Record.{Record}
+use Rattle.list_spec.specs.declared.Listed.the-variants.{Refused as Listed-refused}
+use Rattle.list_spec.specs.Records.{recordOf, countOf}
+use Rattle.list_capacity.specs.Room.{answerOf}
+use Rattle.list_reader.specs.declared.Step.the-variants.{End}
+use Rattle.list_reader.specs.Reading.{stepAt}
+use Rattle.list_reader.specs.Agree.{placeOf}
+use Rattle.list_reader.specs.Agree as Reader
+use Rattle.byterun_row.specs.Packing.{Packs}
+use Rattle.byterun_pack.specs.Pack.{packed}
+use Rattle.byterun_pack.specs.Laws as Packing
+use Rattle.ilbm_spec.specs.declared.BitmapHeader.{BitmapHeader}
+use Rattle.write_picture.specs.declared.WriteAnswer.the-variants.{Written}
+use Rattle.write_form.specs.File.{pictureFile}
+use Rattle.write_picture.specs.Write.{writeOf, outAfter}
+use Rattle.theorem_roundtrip.specs.Header.{InRange}
+use Rattle.theorem_roundtrip.specs.RoundTrip as RoundTrip
+use Rattle.theorem_additions.specs.Statement as Statement
+use Rattle.theorem_additions.specs.Demand3 as Additions
+use Rattle.theorem_demands.specs.Numbers.{Structural}
+use Rattle.theorem_demands.specs.Numbers as Numbers
+use Rattle.theorem_demands.specs.Listings as Listings
+
+-- Demand 1. Any bytes may be handed to the check, and a refusal has one of the numbers 1 to 12. That every call ends, stays inside
+-- what it was lent and answers by these definitions is what its proved contract says.
+pub refused-by-number : (s : List ℕ) (k p : ℕ) → checkOf s ≡ Refused k p → Structural k
+refused-by-number = Numbers.refusals
+
+-- Demand 2. A file is accepted exactly if it is a chunk tree and then trailing bytes, within the limits of length and nesting; and
+-- the counts that are told are the tree's.
+pub accepted-iff-tree :
+    (s : List ℕ) → Bytes s → (n e t : ℕ) →
+    (checkOf s ≡ Accepted n e t) ↔
+    ((c : Chunk) × (R : List ℕ) × ChunkFile s c R × (n ≡ count (before c none)) × (e ≡ length (bytes (before c none))) × (t ≡ length R))
+accepted-iff-tree = Accept.accepted-iff
+
+-- One file has one tree.
+pub one-tree : (s : List ℕ) (c d : Chunk) (R S : List ℕ) → ChunkFile s c R → ChunkFile s d S → (c ≡ d) × (R ≡ S)
+one-tree = Accept.unique
+
+-- The listing is given three ways that agree: place i of the table, the i-th answer of the reader and the record asked for by the
+-- number i are the same; from the count on it is 14 and the end.
+pub listings-agree :
+    (s : List ℕ) → Bytes s → (old : List Record) (n e t : ℕ) → answerOf (length old) (checkOf s) ≡ Accepted n e t → (i : ℕ) (unused : Record) → i < n →
+    Listings.SameRecord s old i unused
+listings-agree = Listings.same-record
+
+pub listings-end :
+    (s : List ℕ) → Bytes s → (n e t i : ℕ) → Accepted n e t ≡ checkOf s → countOf s ≤ i → (recordOf s i ≡ Listed-refused 14 0) × (stepAt s (placeOf s i) ≡ End)
+listings-end = Reader.ends-behind
+
+-- A packed row unpacks to the row, from any place of any BODY, and grows by at most one byte per started 128.
+pub packed-unpacks : (row : List ℕ) → Packs (packed row) row
+packed-unpacks = Packing.packed-unpacks
+
+pub packed-short : (row : List ℕ) → length (packed row) ≤ Packing.mostFor (length row)
+packed-short = Packing.packed-short
+
+-- What is written reads back, with an empty default palette: the same fields but pad1, the same palette and frame.
+pub written-reads-back :
+    (b : BitmapHeader) (palette frame out : List ℕ) (n : ℕ) → InRange b → writeOf b palette frame (length out) ≡ Written n →
+    RoundTrip.ReadsBack (take n (outAfter (writeOf b palette frame (length out)) (pictureFile b palette frame) out)) b palette frame
+written-reads-back = RoundTrip.round-trip
+
+-- Demand 3. Whatever a later writer adds, list of additions and all: the file is still accepted, every call on every picture
+-- answers as before but for the moved place of a shared PROP, and version names over added headers give 3 at the first of them.
+pub unchanged-by-additions : Statement.Demand3
+unchanged-by-additions = Additions.demand3

@@ -1,0 +1,150 @@
+// The bytes of one picture as a FORM ILBM, put into a buffer part by part.
+use write_body::put_body;
+use ilbm_spec::BitmapHeader;
+ghost use mathlib.Core.Path.{_≡_};
+ghost use Prim.Native.Nat.{_+_, _*_, _/_, _%_, _≤_, _<_};
+ghost use lib.ListN.{length, replicate};
+ghost use Rattle.write_body.specs.Body.{bodyBytes};
+ghost use Rattle.write_plane_row.specs.Put.{put, Room};
+ghost use Rattle.write_form.specs.File.{unsigned, headerBytes, pictureFile};
+ghost use Rattle.write_form.specs.Parts.{chunkHead, paletteChunk, typeAndHeader, paletteSize};
+
+// The bytes of a chunk's header.
+fn head_bytes(name: usize, size: usize) -> [u8; 8]
+    requires { ⌜ (name < 4294967296) × (size < 4294967296) ⌝ }
+    ensures { λ r. ⌜ r ≡ chunkHead name size ⌝ }
+{
+    [
+        (name / 16777216) as u8,
+        (name / 65536 % 256) as u8,
+        (name / 256 % 256) as u8,
+        (name % 256) as u8,
+        (size / 16777216) as u8,
+        (size / 65536 % 256) as u8,
+        (size / 256 % 256) as u8,
+        (size % 256) as u8,
+    ]
+}
+
+// The 16-bit number that is read as this signed one.
+fn unsigned(x: i16) -> u16
+    ensures { λ r. ⌜ r ≡ unsigned x ⌝ }
+{
+    if x < 0 {
+        let m = -1 - x;
+        return 65535 - (m as u16);
+    }
+    x as u16
+}
+
+fn high(v: u16) -> u8
+    ensures { λ r. ⌜ r ≡ v / 256 ⌝ }
+{
+    (v / 256) as u8
+}
+
+fn low(v: u16) -> u8
+    ensures { λ r. ⌜ r ≡ v % 256 ⌝ }
+{
+    (v % 256) as u8
+}
+
+// The bytes of BMHD.
+fn header_bytes(b: BitmapHeader) -> [u8; 20]
+    ensures { λ r. ⌜ r ≡ headerBytes b ⌝ }
+{
+    let x = unsigned(b.x);
+    let y = unsigned(b.y);
+    let page_width = unsigned(b.page_width);
+    let page_height = unsigned(b.page_height);
+    [
+        high(b.w),
+        low(b.w),
+        high(b.h),
+        low(b.h),
+        high(x),
+        low(x),
+        high(y),
+        low(y),
+        b.planes,
+        b.masking,
+        b.compression,
+        0,
+        high(b.transparent),
+        low(b.transparent),
+        b.x_aspect,
+        b.y_aspect,
+        high(page_width),
+        low(page_width),
+        high(page_height),
+        low(page_height),
+    ]
+}
+
+// Writes the header of a chunk.
+fn put_head(name: usize, size: usize, out: &mut [u8], at: usize)
+    requires { ⌜ (name < 4294967296) × (size < 4294967296) × (at + 8 ≤ length (now out)) ⌝ }
+    ensures { λ _. ⌜ now (out .exit) ≡ put (now (out .entry)) at (chunkHead name size) ⌝ }
+{
+    let head = head_bytes(name, size);
+    byterun_copy::copy_run(&head, 0, out, at, 8);
+}
+
+// Writes the type of the FORM, the header of BMHD and BMHD's data.
+fn put_header(b: BitmapHeader, out: &mut [u8])
+    requires { ⌜ 40 ≤ length (now out) ⌝ }
+    ensures { λ _. ⌜ now (out .exit) ≡ put (now (out .entry)) 8 (typeAndHeader b) ⌝ }
+{
+    let kind = [73u8, 76, 66, 77, 66, 77, 72, 68, 0, 0, 0, 20];
+    byterun_copy::copy_run(&kind, 0, out, 8, 12);
+    let head = header_bytes(b);
+    byterun_copy::copy_run(&head, 0, out, 20, 20);
+}
+
+// Writes the pad of a chunk of so many bytes.
+fn put_pad(n: usize, out: &mut [u8], at: usize)
+    requires { ⌜ at + n % 2 ≤ length (now out) ⌝ }
+    ensures { λ _. ⌜ now (out .exit) ≡ put (now (out .entry)) at (replicate (n % 2) 0) ⌝ }
+{
+    if n % 2 == 1 {
+        out[at] = 0;
+    }
+}
+
+// The length of CMAP for a palette of so many bytes.
+pub fn palette_size(n: usize) -> usize
+    requires { ⌜ n ≤ 768 ⌝ }
+    ensures { λ r. ⌜ r ≡ paletteSize n ⌝ }
+{
+    if n == 0 {
+        return 0;
+    }
+    8 + n + n % 2
+}
+
+// Writes CMAP, if the palette is not empty.
+fn put_palette(palette: &[u8], out: &mut [u8])
+    requires { ⌜ (length (now palette) ≤ 768) × (40 + paletteSize (length (now palette)) ≤ length (now out)) ⌝ }
+    ensures { λ _. ⌜ now (out .exit) ≡ put (now (out .entry)) 40 (paletteChunk (now (palette .entry))) ⌝ }
+{
+    let n = palette.len();
+    if n != 0 {
+        put_head(0x434D4150, n, out, 40);
+        byterun_copy::copy_run(palette, 0, out, 48, n);
+        put_pad(n, out, 48 + n);
+    }
+}
+
+// Writes the file, whose BODY has so many bytes, to the start of out.
+pub fn put_file(b: BitmapHeader, palette: &[u8], frame: &[u8], body: usize, out: &mut [u8])
+    requires { ⌜ (b .planes ≤ 8) × (length (now palette) ≤ 768) × (length (now frame) ≡ b .h * b .w) × (body ≡ length (bodyBytes b (now frame))) × Room (pictureFile b (now palette) (now frame)) (now out) 0 ⌝ }
+    ensures { λ _. ⌜ now (out .exit) ≡ put (now (out .entry)) 0 (pictureFile b (now (palette .entry)) (now (frame .entry))) ⌝ }
+{
+    let colours = palette_size(palette.len());
+    put_head(0x464F524D, 40 + colours + body + body % 2, out, 0);
+    put_header(b, out);
+    put_palette(palette, out);
+    put_head(0x424F4459, body, out, 40 + colours);
+    let end = put_body(b, frame, out, 48 + colours);
+    put_pad(body, out, end);
+}
