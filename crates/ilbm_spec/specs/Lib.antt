@@ -1,6 +1,5 @@
 pub mod Names
 pub mod Contents
-pub mod Places
 pub mod Pictures
 pub mod Palette
 pub mod Rows

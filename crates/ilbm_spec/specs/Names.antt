@@ -1,8 +1,8 @@
 -- 01 "Pictures": the names that matter in a picture, and which groups are one or are shared by one.
 use Prim.Native.Nat.{ℕ}
-use mathlib.Core.Bool.{Bool}
+use mathlib.Core.Bool.{Bool, not}
 use lib.Dec.{eqb}
-use Rattle.iff_name.specs.Name.{both}
+use Rattle.iff_name.specs.Name.{both, either}
 use Rattle.iff_name.specs.Codes.{FORM, PROP}
 
 abbrev pub ILBM : ℕ
@@ -40,3 +40,11 @@ isPicture n t = both (eqb n FORM) (isPictureType t)
 -- "the shared PROP": a PROP ILBM
 abbrev pub isSharedProp : ℕ → ℕ → Bool
 isSharedProp n t = both (eqb n PROP) (isPictureType t)
+
+-- "named other than the six properties and BODY"
+abbrev pub foreign : ℕ → Bool
+foreign n =
+    not
+    (either
+    (either (eqb n BMHD) (either (eqb n CMAP) (eqb n GRAB)))
+    (either (either (eqb n DEST) (eqb n SPRT)) (either (eqb n CAMG) (eqb n BODY))))

@@ -57,18 +57,18 @@ destinationIn d =
 
 -- a property's data, empty if it is absent
 abbrev pub dataOf : Property → List ℕ
-dataOf (own d) = d
-dataOf (shared p d) = d
+dataOf (own x) = x .content
+dataOf (shared p x) = x .content
 dataOf absent = []
 
 abbrev pub originOf : Property → Origin
-originOf (own d) = Own
-originOf (shared p d) = Shared p
+originOf (own x) = Own
+originOf (shared p x) = Shared p
 originOf absent = Absent
 
 abbrev pub counts : Property → Bool
-counts (own d) = true
-counts (shared p d) = true
+counts (own x) = true
+counts (shared p x) = true
 counts absent = false
 
 -- 23: "a counting property has a wrong size (BMHD 20, CMAP a multiple of 3, GRAB 4, DEST 8, SPRT 2, CAMG 4)"
@@ -148,15 +148,8 @@ pictureAnswer (refused k p) = Refused k p
 abbrev pub pictureOf : List ℕ → ℕ → PictureAnswer
 pictureOf s i = pictureAnswer (viewOf s i)
 
--- "The palette is the CMAP that counts, or the caller's own default where none counts"; "after any refusal, an empty part"
+-- "The palette is the CMAP that counts, or the caller's own default where none counts"
 abbrev pub paletteFrom : Property → List ℕ → List ℕ
-paletteFrom (own d) default = d
-paletteFrom (shared p d) default = d
+paletteFrom (own x) default = x .content
+paletteFrom (shared p x) default = x .content
 paletteFrom absent default = default
-
-abbrev pub paletteBytes : Viewed → List ℕ → List ℕ
-paletteBytes (found c) default = paletteFrom (c .cmap) default
-paletteBytes (refused k p) default = []
-
-abbrev pub paletteOf : List ℕ → ℕ → List ℕ → List ℕ
-paletteOf s i default = paletteBytes (viewOf s i) default

@@ -12,6 +12,7 @@ use Rattle.ilbm_spec.specs.declared.LineAnswer.the-variants.{Next, Refus
 use Rattle.ilbm_spec.specs.declared.FrameAnswer.{FrameAnswer}
 use Rattle.ilbm_spec.specs.declared.FrameAnswer.the-variants.{Leftover, Refused as Frame-refused}
 use Rattle.iff_tree.specs.Judge.{Found, found, refused}
+use Rattle.ilbm_spec.specs.Contents.{Located}
 use Rattle.ilbm_spec.specs.Pictures.{Viewed, viewOf, dataOf, headerIn}
 
 -- "A plane row is 2 * floor((w+15)/16) bytes."
@@ -71,9 +72,9 @@ linesFrom b body (suc lines) at =
     thenRead (lineFrom b body at) (λ cs q. thenRead (linesFrom b body lines q) (λ rest r. found ((cs ++ rest), r)))
 
 -- Rows are asked of a picture: 25 for no BODY, and otherwise what `rows` says of its header and its BODY.
-abbrev pub onBody : List (List ℕ) → (List ℕ → Read (List ℕ)) → Read (List ℕ)
+abbrev pub onBody : List Located → (List ℕ → Read (List ℕ)) → Read (List ℕ)
 onBody [] rows = refused 25 0
-onBody (body ∷ others) rows = rows body
+onBody (body ∷ others) rows = rows (body .content)
 
 abbrev pub askRows : Viewed → (BitmapHeader → List ℕ → Read (List ℕ)) → Read (List ℕ)
 askRows (found c) rows = onBody (c .bodies) (λ body. rows (headerIn (dataOf (c .bmhd))) body)

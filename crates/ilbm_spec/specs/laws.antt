@@ -1,4 +1,2 @@
 pub mod Ignored
 pub mod Moved
-pub mod Palette
-pub mod Places

@@ -13,8 +13,8 @@ use Rattle.iff_rules.specs.declared.Position.the-variants.{Outermost, InForm, I
 use Rattle.iff_chunk.specs.Chunks.{Chunks, none, leaf, group, Chunk, aLeaf, aGroup, before, bytes, putWord, word}
 use Rattle.iff_rules.specs.Rules.{inside, after, groupType}
 use Rattle.iff_grammar.specs.Grammar.{chunkName, member, seenAfter, Members, height}
-use Rattle.ilbm_spec.specs.Names.{ILBM, isPictureType}
-use Rattle.ilbm_spec.specs.laws.Ignored.{foreign, noPicture}
+use Rattle.ilbm_spec.specs.Names.{isPictureType, foreign}
+use Rattle.ilbm_spec.specs.Contents.{noPicture}
 
 -- the types of the PROPs directly among these chunks
 unfoldable pub propTypes : Chunks → List ℕ

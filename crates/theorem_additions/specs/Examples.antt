@@ -15,9 +15,8 @@ use Rattle.iff_grammar.specs.Words.{Bytes}
 use Rattle.iff_grammar.specs.laws.Names.{both-true}
 use Rattle.iff_name.specs.Codes.{FORM, LIST, PROP, CAT, JJJJ}
 use Rattle.ilbm_spec.specs.Names.{ILBM, BMHD}
-use Rattle.ilbm_spec.specs.Contents.{shared, absent, lastOwn, lastShared, propAmong, propertyOf, bodiesIn, contentsFrom}
+use Rattle.ilbm_spec.specs.Contents.{located, shared, absent, lastNamed, listScope, propertyOf, bodiesFrom, contentsFrom, noPicture}
 use Rattle.ilbm_spec.specs.Pictures.{headerIn, wrongSize, headerRefusal, pictureRefusal, Viewed, pickContent, viewOf}
-use Rattle.ilbm_spec.specs.laws.Ignored.{noPicture}
 use Rattle.theorem_additions.specs.Additions.{here, past, into, Addition, chunk, trailing, propTypes, insert, boundaryPlace, around, growAll}
 use Rattle.theorem_additions.specs.Additions.{MayAddAll, fileAfter, movedBy, headersFrom, addedHeaders, renamed, lowest}
 use Rattle.theorem_additions.specs.Statement.{Unchanged, AllRefused}
@@ -154,21 +153,30 @@ file-bytes = small-bytes file refl
 unchanged : Unchanged file tree additions
 unchanged = demand3 file file-bytes tree reads additions may
 
--- the picture before and after: its header is shared, and only the place of the PROP differs
-abbrev shows : ℕ → Viewed
-shows place =
-    found (record { bmhd = shared place header; cmap = absent; grab = absent; dest = absent; sprt = absent; camg = absent; bodies = [] })
+-- the picture before and after: its header is shared, and only the places of the FORM, the PROP and the BMHD differ
+abbrev shows : ℕ → ℕ → ℕ → Viewed
+shows form prop bmhd =
+    found (record {
+      place = form;
+      bmhd = shared prop (located bmhd header);
+      cmap = absent;
+      grab = absent;
+      dest = absent;
+      sprt = absent;
+      camg = absent;
+      bodies = [];
+    })
 
-view-before : viewOf file 0 ≡ shows 12
+view-before : viewOf file 0 ≡ shows 52 12 24
 unfolding
     readFile chunkAt run headerOf groupHeaderOf word wellFormed versionName typeName typeBytes reservedName kindOf propWithin
-    contentsFrom propAmong propertyOf lastOwn lastShared bodiesIn pickContent pictureRefusal wrongSize headerRefusal headerIn bytes
+    contentsFrom listScope propertyOf lastNamed bodiesFrom pickContent pictureRefusal wrongSize headerRefusal headerIn bytes
 view-before = refl
 
-view-after : viewOf edited 0 ≡ shows 32
+view-after : viewOf edited 0 ≡ shows 112 32 54
 unfolding
     readFile chunkAt run headerOf groupHeaderOf word wellFormed versionName typeName typeBytes reservedName kindOf propWithin
-    contentsFrom propAmong propertyOf lastOwn lastShared bodiesIn pickContent pictureRefusal wrongSize headerRefusal headerIn bytes
+    contentsFrom listScope propertyOf lastNamed bodiesFrom pickContent pictureRefusal wrongSize headerRefusal headerIn bytes
 view-after = refl
 
 -- a name over the FORM in the FORM ILBM, and one over the local chunk in the FORM in the LIST, which stands before it

@@ -1,43 +1,93 @@
 -- Demand 3, as one claim about a file and a whole list of additions.
-use Prim.Native.Nat.{ℕ}
+use Prim.Native.Nat.{ℕ, _+_, _-_}
 use mathlib.Core.Path.{_≡_}
 use mathlib.Core.Bool.{true}
 use mathlib.Core.List.{List, [], _∷_}
-use Rattle.iff_name.specs.Name.{versionName}
+use lib.Dec.{eqb}
+use lib.ListN.{length}
+use Rattle.iff_name.specs.Name.{pick, versionName}
 use Rattle.iff_chunk.specs.Chunks.{Chunk}
 use Rattle.iff_tree.specs.declared.Verdict.the-variants.{Refused}
 use Rattle.iff_tree.specs.Judge.{found, readFile, checkOf, refused}
 use Rattle.iff_grammar.specs.Words.{Bytes}
 use Rattle.iff_grammar.specs.Grammar.{member}
-use Rattle.ilbm_spec.specs.declared.PictureAnswer.the-variants.{Refused as Picture-refused}
-use Rattle.ilbm_spec.specs.laws.Moved.{movedContent}
-use Rattle.ilbm_spec.specs.Pictures.{Viewed, viewOf, pictureOf, pictureAnswer}
-use Rattle.ilbm_spec.specs.Palette.{paletteAnswer}
-use Rattle.ilbm_spec.specs.Rows.{lineOf, frameOf}
+use Rattle.ilbm_spec.specs.declared.Origin.{Origin}
+use Rattle.ilbm_spec.specs.declared.Origin.the-variants.{Own, Shared, Absent}
+use Rattle.ilbm_spec.specs.declared.Picture.{Picture}
+use Rattle.ilbm_spec.specs.declared.PictureAnswer.{PictureAnswer}
+use Rattle.ilbm_spec.specs.declared.PictureAnswer.the-variants.{Shown, Refused as Picture-refused}
+use Rattle.ilbm_spec.specs.declared.LineAnswer.{LineAnswer}
+use Rattle.ilbm_spec.specs.declared.LineAnswer.the-variants.{Refused as Line-refused}
+use Rattle.ilbm_spec.specs.declared.FrameAnswer.{FrameAnswer}
+use Rattle.ilbm_spec.specs.declared.FrameAnswer.the-variants.{Refused as Frame-refused}
+use Rattle.ilbm_spec.specs.Contents.{movedContent}
+use Rattle.ilbm_spec.specs.Pictures.{Viewed, viewOf, pictureOf}
+use Rattle.ilbm_spec.specs.Palette.{paletteAnswer, Extent, paletteExtent}
+use Rattle.ilbm_spec.specs.Rows.{lineOf, frameOf, lineAnswer, frameAnswer, bytesAfter}
 use Rattle.theorem_additions.specs.Additions.{Addition, treeAfter, fileAfter, MayAddAll, movedBy, addedHeaders, Renaming, renamed, lowest}
 
--- a picture as before, the places of its shared PROP moved; a refusal as before, with its place
+-- a picture as before, the places of its chunks moved; a refusal as before, with its place
 abbrev pub movedView : (ℕ → ℕ) → Viewed → Viewed
 movedView f (found c) = found (movedContent f c)
 movedView f (refused k p) = refused k p
 
--- Every call on every picture answers as before. What any call is made from, `viewOf`, is the same but for the place of a shared
--- PROP; and so are properties with origins, the palette, a scan line from any place into any row, the frame into any frame; refusals with their places.
+-- the properties as before, the places of the PROPs that are told moved
+abbrev pub movedOrigin : (ℕ → ℕ) → Origin → Origin
+movedOrigin f Own = Own
+movedOrigin f (Shared p) = Shared (f p)
+movedOrigin f Absent = Absent
+
+abbrev pub movedPicture : (ℕ → ℕ) → Picture → Picture
+movedPicture f x =
+    record {
+      header = x .header;
+      «header_from» = movedOrigin f (x .«header_from»);
+      «palette_from» = movedOrigin f (x .«palette_from»);
+      grab = x .grab;
+      «grab_from» = movedOrigin f (x .«grab_from»);
+      destination = x .destination;
+      «destination_from» = movedOrigin f (x .«destination_from»);
+      sprite = x .sprite;
+      «sprite_from» = movedOrigin f (x .«sprite_from»);
+      «view_mode» = x .«view_mode»;
+      «view_mode_from» = movedOrigin f (x .«view_mode_from»);
+    }
+
+abbrev pub movedAnswer : (ℕ → ℕ) → PictureAnswer → PictureAnswer
+movedAnswer f (Shown x) = Shown (movedPicture f x)
+movedAnswer f (Picture-refused k p) = Picture-refused k p
+
+-- the palette's extent: its CMAP, whose header stands 8 before, moved; 0 and 0 as before
+abbrev pub movedExtent : (ℕ → ℕ) → Extent → Extent
+movedExtent f e = pick (eqb (e .from) 0) e (record { from = f (e .from - 8) + 8; to = f (e .from - 8) + 8 + (e .to - e .from) })
+
+-- A call with a lent row or frame: what it tells, and the bytes that it leaves there.
+abbrev pub lineCall : List ℕ → ℕ → ℕ → List ℕ → LineAnswer × List ℕ
+lineCall s i start row = (lineAnswer (lineOf s i start (length row)), bytesAfter (lineOf s i start (length row)) row)
+
+abbrev pub frameCall : List ℕ → ℕ → List ℕ → FrameAnswer × List ℕ
+frameCall s i frame = (frameAnswer (frameOf s i (length frame)), bytesAfter (frameOf s i (length frame)) frame)
+
+-- Every call on every picture answers as before. What any call is made from, `viewOf`, is the same but for the places of its chunks; and
+-- so are properties with origins, the palette and where it lies, a scan line from any place and the frame, into any lent row or frame;
+-- refusals with their places.
 pub record SameAnswers (f g : List ℕ) (move : ℕ → ℕ) : Type 0 where
   pub views : (i : ℕ) → viewOf g i ≡ movedView move (viewOf f i)
-  pub pictures : (i : ℕ) → pictureOf g i ≡ pictureAnswer (movedView move (viewOf f i))
+  pub pictures : (i : ℕ) → pictureOf g i ≡ movedAnswer move (pictureOf f i)
   pub palettes : (i : ℕ) (default : List ℕ) → paletteAnswer g i default ≡ paletteAnswer f i default
-  pub lines : (i start room : ℕ) → lineOf g i start room ≡ lineOf f i start room
-  pub frames : (i room : ℕ) → frameOf g i room ≡ frameOf f i room
+  pub extents : (i : ℕ) → paletteExtent g i ≡ movedExtent move (paletteExtent f i)
+  pub lines : (i start : ℕ) (row : List ℕ) → lineCall g i start row ≡ lineCall f i start row
+  pub frames : (i : ℕ) (frame : List ℕ) → frameCall g i frame ≡ frameCall f i frame
 
--- Every call gives refusal 3 at p.
+-- Every call gives refusal 3 at p, and leaves what was lent.
 pub record AllRefused (g : List ℕ) (p : ℕ) : Type 0 where
   pub check : checkOf g ≡ Refused 3 p
   pub views : (i : ℕ) → viewOf g i ≡ refused 3 p
   pub pictures : (i : ℕ) → pictureOf g i ≡ Picture-refused 3 p
   pub palettes : (i : ℕ) (default : List ℕ) → paletteAnswer g i default ≡ record { number = 3; place = p; colours = [] }
-  pub lines : (i start room : ℕ) → lineOf g i start room ≡ refused 3 p
-  pub frames : (i room : ℕ) → frameOf g i room ≡ refused 3 p
+  pub extents : (i : ℕ) → paletteExtent g i ≡ record { from = 0; to = 0 }
+  pub lines : (i start : ℕ) (row : List ℕ) → lineCall g i start row ≡ (Line-refused 3 p, row)
+  pub frames : (i : ℕ) (frame : List ℕ) → frameCall g i frame ≡ (Frame-refused 3 p, frame)
 
 -- the renamings put version names over added headers
 abbrev pub OverAdded : List Renaming → List ℕ → Type 0

@@ -1,8 +1,8 @@
--- Chunks that no picture looks at. Before other chunks such a one changes nothing for them: the last property, the BODYs, the PROP
--- ILBM and the pictures are those of the others alone, which stand further on by its length.
+-- Chunks that no picture looks at. Before other chunks such a one changes nothing for them: the last property, the BODYs, the scope and
+-- the pictures are those of the others alone, which stand further on by its length.
 use Prim.Native.Nat.{ℕ, _+_}
 use mathlib.Core.Path.{_≡_, refl, ap}
-use mathlib.Core.Bool.{Bool, true, false, not}
+use mathlib.Core.Bool.{Bool, true, false}
 use mathlib.Core.List.{List, []}
 use mathlib.Core.Option.{Option, some}
 use native.Mathlib.Omega.{arith}
@@ -10,22 +10,10 @@ use lib.Dec.{eqb}
 use lib.ListN.{length}
 use borrow.Author.Tests.{not-true}
 use Rattle.iff_name.specs.Name.{both, either, pick}
-use Rattle.iff_chunk.specs.Chunks.{Chunks, none, leaf, group, Chunk, aLeaf, aGroup, before, bytes}
 use Rattle.iff_name.specs.Codes.{FORM, PROP}
-use Rattle.ilbm_spec.specs.Names.{ILBM, BMHD, CMAP, GRAB, DEST, SPRT, CAMG, BODY, isPicture, isPictureType}
-use Rattle.ilbm_spec.specs.Contents.{lastOwn, lastShared, bodiesIn}
-use Rattle.ilbm_spec.specs.Contents.{SharedProp, propAmong, scopeInside, contentsFrom}
-
--- "named other than the six properties and BODY"
-abbrev pub foreign : ℕ → Bool
-foreign n =
-    not (either (either (eqb n BMHD) (either (eqb n CMAP) (eqb n GRAB))) (either (either (eqb n DEST) (eqb n SPRT)) (either (eqb n CAMG) (eqb n BODY))))
-
--- there is no FORM ILBM among these chunks, at any depth
-unfoldable pub noPicture : Chunks → Bool
-noPicture none = true
-noPicture (leaf n d p F) = noPicture F
-noPicture (group n t G F) = both (not (isPicture n t)) (both (noPicture G) (noPicture F))
+use Rattle.iff_chunk.specs.Chunks.{Chunks, none, leaf, group, Chunk, aLeaf, aGroup, before, bytes}
+use Rattle.ilbm_spec.specs.Names.{BMHD, CMAP, GRAB, DEST, SPRT, CAMG, BODY, isPictureType, isPicture, foreign}
+use Rattle.ilbm_spec.specs.Contents.{Located, located, lastNamed, bodiesFrom, Scope, listScope, scopeInside, contentsFrom, noPicture}
 
 -- no picture looks at this chunk
 abbrev pub Ignored : Chunk → Type 0
@@ -37,9 +25,12 @@ abbrev pub span : Chunk → ℕ
 span (aLeaf n d p) = 8 + length d + length p
 span (aGroup n t G) = 12 + length (bytes G)
 
--- a name that no foreign chunk has
+-- a test that no foreign chunk's name passes, and a name that no foreign chunk has
+abbrev pub Passes : (ℕ → Bool) → Type 0
+Passes ends = (n : ℕ) → foreign n ≡ true → ends n ≡ false
+
 abbrev pub Known : ℕ → Type 0
-Known name = (n : ℕ) → foreign n ≡ true → eqb n name ≡ false
+Known name = Passes (λ n. eqb n name)
 
 -- the seven tests of `foreign`
 abbrev pub Seven : (ℕ → Type 0) → Type 0
@@ -70,37 +61,33 @@ known = (
   λ n h. foreign-parts n h .6,
 )
 
--- in a FORM: the last property of a name, and the BODYs
-pub own-past : (name : ℕ) → Known name → (X : Chunk) (F : Chunks) → Ignored X → (so-far : Option (List ℕ))
-    → lastOwn name so-far (before X F) ≡ lastOwn name so-far F
-unfolding lastOwn
-own-past name k (aLeaf n d p) F g o = rw (known .6 n g, k n g)
-own-past name k (aGroup n t G) F g o = refl
+-- the last chunk of a name
+pub named-past :
+    (ends : ℕ → Bool) → Passes ends → (name : ℕ) → Known name → (X : Chunk) (F : Chunks) → Ignored X → (p : ℕ) (o : Option Located) →
+    lastNamed ends name p o (before X F) ≡ lastNamed ends name (p + span X) o F
+unfolding lastNamed
+named-past ends e name k (aLeaf n d pad) F g p o = rw (e n g, k n g)
+named-past ends e name k (aGroup n t G) F g p o = refl
 
-pub bodies-past : (X : Chunk) (F : Chunks) → Ignored X → bodiesIn (before X F) ≡ bodiesIn F
-unfolding bodiesIn
-bodies-past (aLeaf n d p) F g = rw (known .6 n g)
-bodies-past (aGroup n t G) F g = refl
-
--- in a PROP: the last property of a name
-pub shared-past : (name : ℕ) → Known name → (X : Chunk) (F : Chunks) → Ignored X → (so-far : Option (List ℕ))
-    → lastShared name so-far (before X F) ≡ lastShared name so-far F
-unfolding lastShared
-shared-past name k (aLeaf n d p) F g o = ap (λ (b : Bool). lastShared name (pick b (some d) o) F) (k n g)
-shared-past name k (aGroup n t G) F g o = refl
+-- the BODYs
+pub bodies-past : (X : Chunk) (F : Chunks) → Ignored X → (p : ℕ) → bodiesFrom p (before X F) ≡ bodiesFrom (p + span X) F
+unfolding bodiesFrom
+bodies-past (aLeaf n d pad) F g p = rw (known .6 n g)
+bodies-past (aGroup n t G) F g p = refl
 
 not-both : (a b : Bool) → b ≡ false → both a b ≡ false
 not-both true b e = e
 not-both false b e = refl
 
 -- in a LIST: a PROP of another type, a filler or a FORM leaves the PROP ILBM
-pub prop-past : (X : Chunk) (F : Chunks) → Ignored X → (p : ℕ) → propAmong p (before X F) ≡ propAmong (p + span X) F
-unfolding propAmong
-prop-past (aLeaf n d pad) F g p = refl
-prop-past (aGroup n t G) F g p = rw (not-both (eqb n PROP) (isPictureType t) (g .0))
+pub scope-past :
+    (X : Chunk) (F : Chunks) → Ignored X → (p : ℕ) (scope : Scope) → listScope p (before X F) scope ≡ listScope (p + span X) F scope
+unfolding listScope
+scope-past (aLeaf n d pad) F g p scope = refl
+scope-past (aGroup n t G) F g p scope = rw (not-both (eqb n PROP) (isPictureType t) (g .0))
 
 -- where there is no FORM ILBM there is no picture
-no-contents : (F : Chunks) → noPicture F ≡ true → (p : ℕ) (scope : List SharedProp) → contentsFrom p scope F ≡ []
+no-contents : (F : Chunks) → noPicture F ≡ true → (p : ℕ) (scope : Scope) → contentsFrom p scope F ≡ []
 unfolding contentsFrom noPicture
 no-contents none h p scope = refl
 no-contents (leaf n d pad F) h p scope = no-contents F h _ scope
@@ -118,8 +105,9 @@ no-contents (group n t G F) h p scope =
     both-true false b e = absurd (let z : _≡_ {A = ℕ} 0 1 = cc in omega arith)
 
 -- a FORM of another type is no picture, nor is anything in it
-pub contents-past : (X : Chunk) (F : Chunks) → Ignored X → (p : ℕ) (scope : List SharedProp)
-    → contentsFrom p scope (before X F) ≡ contentsFrom (p + span X) scope F
+pub contents-past :
+    (X : Chunk) (F : Chunks) → Ignored X → (p : ℕ) (scope : Scope) → contentsFrom p scope (before X F) ≡ contentsFrom (p + span X) scope F
 unfolding contentsFrom
 contents-past (aLeaf n d pad) F g p scope = refl
-contents-past (aGroup n t G) F g p scope = rw (not-both (eqb n FORM) (isPictureType t) (g .0), no-contents G (g .1) (p + 12) (scopeInside n p G scope))
+contents-past (aGroup n t G) F g p scope =
+    rw (not-both (eqb n FORM) (isPictureType t) (g .0), no-contents G (g .1) (p + 12) (scopeInside n p G scope))

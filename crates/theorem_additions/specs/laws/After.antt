@@ -7,24 +7,42 @@ use lib.ListN.{length}
 use Rattle.iff_rules.specs.declared.Position.the-variants.{Outermost}
 use Rattle.iff_chunk.specs.Chunks.{Chunks, none, group, Chunk, aLeaf, aGroup, before}
 use Rattle.iff_grammar.specs.Grammar.{ChunkFile}
-use Rattle.ilbm_spec.specs.Contents.{Property, own, shared, absent, Content, contentsOf}
-use Rattle.ilbm_spec.specs.laws.Moved.{movedProperty, movedContent, mapContents, contents-carried}
+use Rattle.ilbm_spec.specs.Contents.{Located, located, Property, own, shared, absent, noScope, Content, contentsOf}
+use Rattle.ilbm_spec.specs.Contents.{movedLocated, movedProperty, movedBodies, movedContent}
+use Rattle.ilbm_spec.specs.laws.Moved.{mapContents, contents-carried}
 use Rattle.theorem_additions.specs.Additions.{into, Addition, chunk, trailing, insert, boundaryPlace, bytesOf, added, addedAt, treeWith, fileWith, MayAdd}
 use Rattle.theorem_additions.specs.Additions.{treeAfter, fileAfter, MayAddAll, moved, movedBy}
 use Rattle.theorem_additions.specs.laws.Bytes.{may-at}
 use Rattle.theorem_additions.specs.laws.Files.{outermost-group, file-with}
 use Rattle.theorem_additions.specs.laws.Ignored.{may-ignored}
-use Rattle.theorem_additions.specs.laws.Answers.{groups-before, contents-inserted}
+use Rattle.theorem_additions.specs.laws.Answers.{chunks-before, contents-inserted}
+
+located-still : (move : ℕ → ℕ) → ((p : ℕ) → move p ≡ p) → (x : Located) → movedLocated move x ≡ x
+located-still move e x = ap (λ (p : ℕ). located p (x .content)) (e (x .place))
 
 property-still : (move : ℕ → ℕ) → ((p : ℕ) → move p ≡ p) → (q : Property) → movedProperty move q ≡ q
-property-still move e (own d) = refl
-property-still move e (shared p d) = ap (λ (x : ℕ). shared x d) (e p)
+property-still move e (own x) = ap own (located-still move e x)
+property-still move e (shared p x) = ap₂ (λ (q : ℕ) (y : Located). shared q y) (e p) (located-still move e x)
 property-still move e absent = refl
 
-property-twice : (f g h : ℕ → ℕ) → ((p : ℕ) → h p ≡ g (f p)) → (q : Property) → movedProperty h q ≡ movedProperty g (movedProperty f q)
-property-twice f g h e (own d) = refl
-property-twice f g h e (shared p d) = ap (λ (x : ℕ). shared x d) (e p)
-property-twice f g h e absent = refl
+bodies-still : (move : ℕ → ℕ) → ((p : ℕ) → move p ≡ p) → (xs : List Located) → movedBodies move xs ≡ xs
+unfolding movedBodies
+bodies-still move e [] = refl
+bodies-still move e (x ∷ xs) = ap₂ (λ (y : Located) (l : List Located). y ∷ l) (located-still move e x) (bodies-still move e xs)
+
+module _ (f g h : ℕ → ℕ) (e : (p : ℕ) → h p ≡ g (f p)) where
+  located-twice : (x : Located) → movedLocated h x ≡ movedLocated g (movedLocated f x)
+  located-twice x = ap (λ (p : ℕ). located p (x .content)) (e (x .place))
+
+  property-twice : (q : Property) → movedProperty h q ≡ movedProperty g (movedProperty f q)
+  property-twice (own x) = ap own (located-twice x)
+  property-twice (shared p x) = ap₂ (λ (q : ℕ) (y : Located). shared q y) (e p) (located-twice x)
+  property-twice absent = refl
+
+  bodies-twice : (xs : List Located) → movedBodies h xs ≡ movedBodies g (movedBodies f xs)
+  unfolding movedBodies
+  bodies-twice [] = refl
+  bodies-twice (x ∷ xs) = ap₂ (λ (y : Located) (l : List Located). y ∷ l) (located-twice x) (bodies-twice xs)
 
 contents-still : (move : ℕ → ℕ) → ((p : ℕ) → move p ≡ p) → (cs : List Content) → mapContents move cs ≡ cs
 contents-still move e [] = refl
@@ -32,13 +50,14 @@ contents-still move e (c ∷ cs) = ap₂ (λ (x : Content) (l : List Content). x
   where
     one : movedContent move c ≡ c
     one i = record {
+      place = e (c .place) i;
       bmhd = property-still move e (c .bmhd) i;
       cmap = property-still move e (c .cmap) i;
       grab = property-still move e (c .grab) i;
       dest = property-still move e (c .dest) i;
       sprt = property-still move e (c .sprt) i;
       camg = property-still move e (c .camg) i;
-      bodies = c .bodies;
+      bodies = bodies-still move e (c .bodies) i;
     }
 
 contents-twice : (f g h : ℕ → ℕ) → ((p : ℕ) → h p ≡ g (f p)) → (cs : List Content) → mapContents h cs ≡ mapContents g (mapContents f cs)
@@ -47,13 +66,14 @@ contents-twice f g h e (c ∷ cs) = ap₂ (λ (x : Content) (l : List Content). 
   where
     one : movedContent h c ≡ movedContent g (movedContent f c)
     one i = record {
+      place = e (c .place) i;
       bmhd = property-twice f g h e (c .bmhd) i;
       cmap = property-twice f g h e (c .cmap) i;
       grab = property-twice f g h e (c .grab) i;
       dest = property-twice f g h e (c .dest) i;
       sprt = property-twice f g h e (c .sprt) i;
       camg = property-twice f g h e (c .camg) i;
-      bodies = c .bodies;
+      bodies = bodies-twice f g h e (c .bodies) i;
     }
 
 contents-with : (a : Addition) (c : Chunk) (f R : List ℕ) → ChunkFile f c R → MayAdd a c f
@@ -62,10 +82,10 @@ unfolding insert boundaryPlace
 contents-with (chunk i X) (aLeaf n d p) f R g h = outermost-group f n d p R g
 contents-with (chunk i X) (aGroup n t G) f R g h =
     let F : Chunks = group n t G none in
-    contents-inserted (into i) X F (may-ignored (into i) X F Outermost [] h) (may-at (into i) X F Outermost [] h) 0 [] [] (λ name k. refl)
+    contents-inserted (into i) X F (may-ignored (into i) X F Outermost [] h) (may-at (into i) X F Outermost [] h) 0 noScope noScope (λ name k. refl)
 contents-with (trailing k xs) c f R g h =
     let len : ℕ = length (bytesOf c) in
-    contents-carried _ (before c none) 0 0 [] [] (groups-before (before c none) (len + k) (length xs) 0 (omega arith)) (λ name k. refl)
+    contents-carried _ (before c none) 0 0 noScope noScope (chunks-before (before c none) (len + k) (length xs) 0 (omega arith)) (λ name k. refl)
 
 pub file-after : (adds : List Addition) (c : Chunk) (f R : List ℕ) → ChunkFile f c R → MayAddAll adds c f
     → (R′ : List ℕ) × ChunkFile (fileAfter adds c f) (treeAfter adds c) R′

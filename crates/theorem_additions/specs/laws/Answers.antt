@@ -1,25 +1,26 @@
--- One addition leaves the contents of every picture, the place of a shared PROP moved: chunks before the boundary keep their place,
--- chunks behind it move by the bytes added, a group around it keeps its place, and what is added has no picture in it.
+-- One addition leaves the contents of every picture, their places moved: chunks before the boundary keep their place, chunks behind it
+-- move by the bytes added, a group around it keeps its place, and what is added has no picture in it.
 use Prim.Native.Nat.{ℕ, _+_, _≤_, _<_}
 use mathlib.Core.Path.{_≡_, refl, sym, ap, _∙_}
-use mathlib.Core.List.{List, _++_}
-use mathlib.Core.Option.{none as nothing}
+use mathlib.Core.Bool.{Bool}
+use mathlib.Core.List.{List}
+use mathlib.Core.Option.{Option, none as nothing}
 use native.Mathlib.Nat.{add-zero}
 use native.Mathlib.Omega.{arith}
 use lib.Dec.{eqb}
 use lib.ListN.{length}
 use borrow.Author.Tests.{le-leb, lt-leb}
-use Rattle.iff_name.specs.Name.{both}
 use Rattle.iff_chunk.specs.Chunks.{Chunks, none, leaf, group, Chunk, aLeaf, aGroup, bytes}
 use Rattle.iff_grammar.specs.laws.Read.{length-leaf, length-group}
-use Rattle.iff_name.specs.Codes.{FORM, LIST, PROP}
-use Rattle.ilbm_spec.specs.Names.{ILBM, isPicture, isSharedProp}
-use Rattle.ilbm_spec.specs.Contents.{SharedProp, propAmong, scopeInside, contentOf, contentsFrom}
-use Rattle.ilbm_spec.specs.laws.Ignored.{Ignored, span, prop-past, contents-past}
-use Rattle.ilbm_spec.specs.laws.Moved.{mapContents, GroupsMove, SameScope, content-moved, group-moved, group-scope, inside-scope, prop-carried, contents-carried}
+use Rattle.iff_name.specs.Codes.{LIST}
+use Rattle.ilbm_spec.specs.Names.{BODY, isPicture, isSharedProp}
+use Rattle.ilbm_spec.specs.Contents.{Located, lastNamed, atBody, nowhere, Scope, listScope, scopeInside, bodiesFrom, contentOf, contentsFrom, movedBodies}
+use Rattle.ilbm_spec.specs.laws.Ignored.{Ignored, span, Passes, Known, known, named-past, bodies-past, scope-past, contents-past}
+use Rattle.ilbm_spec.specs.laws.Moved.{movedOption, mapContents, ChunksMove, SameScope, pick-moved, ended-moved, body-moved, named-carried}
+use Rattle.ilbm_spec.specs.laws.Moved.{bodies-carried, content-moved, content-carried, group-moved, pick-scope, prop-moved, prop-carried}
+use Rattle.ilbm_spec.specs.laws.Moved.{scope-carried, contents-carried}
 use Rattle.theorem_additions.specs.Additions.{Boundary, here, past, into, insert, boundaryPlace, bytesOf, moved}
 use Rattle.theorem_additions.specs.laws.Bytes.{At, length-insert}
-use Rattle.theorem_additions.specs.laws.Ignored.{last-own, last-shared, same-bodies}
 
 -- the places of so many bytes from p on are carried to those from p′ on
 abbrev pub Carries : (ℕ → ℕ) → ℕ → ℕ → ℕ → Type 0
@@ -46,24 +47,24 @@ carries-before q k p len h x l = moved-before q k (p + x) (omega arith)
 pub carries-after : (q k p p′ len : ℕ) → q ≤ p → p + k ≡ p′ → Carries (moved q k) p p′ len
 carries-after q k p p′ len h e x l = moved-after q k (p + x) (omega arith) ∙ omega arith
 
--- what moves the places of some chunks moves each group among them
-pub groups-move : (F : Chunks) (move : ℕ → ℕ) (p p′ : ℕ) → Carries move p p′ (length (bytes F)) → GroupsMove move p p′ F
-groups-move none move p p′ c = tt
-groups-move (leaf n d pd F) move p p′ c =
+-- what moves the places of some chunks moves each chunk among them
+pub chunks-move : (F : Chunks) (move : ℕ → ℕ) (p p′ : ℕ) → Carries move p p′ (length (bytes F)) → ChunksMove move p p′ F
+chunks-move none move p p′ c = tt
+chunks-move (leaf n d pd F) move p p′ c =
     let len = length-leaf n d pd F in
-    groups-move F move _ _ (carries-part move p p′ _ (8 + length d + length pd) (length (bytes F)) (omega arith) c)
-groups-move (group n t G F) move p p′ c =
+    (carries-first move p p′ _ (omega arith) c, chunks-move F move _ _ (carries-part move p p′ _ (8 + length d + length pd) (length (bytes F)) (omega arith) c))
+chunks-move (group n t G F) move p p′ c =
     let len = length-group n t G F in (
       carries-first move p p′ _ (omega arith) c,
-      groups-move G move _ _ (carries-part move p p′ _ 12 (length (bytes G)) (omega arith) c),
-      groups-move F move _ _ (carries-part move p p′ _ (12 + length (bytes G)) (length (bytes F)) (omega arith) c),
+      chunks-move G move _ _ (carries-part move p p′ _ 12 (length (bytes G)) (omega arith) c),
+      chunks-move F move _ _ (carries-part move p p′ _ (12 + length (bytes G)) (length (bytes F)) (omega arith) c),
     )
 
-pub groups-before : (F : Chunks) (q k p : ℕ) → p + length (bytes F) ≤ q → GroupsMove (moved q k) p p F
-groups-before F q k p h = groups-move F (moved q k) p p (carries-before q k p (length (bytes F)) h)
+pub chunks-before : (F : Chunks) (q k p : ℕ) → p + length (bytes F) ≤ q → ChunksMove (moved q k) p p F
+chunks-before F q k p h = chunks-move F (moved q k) p p (carries-before q k p (length (bytes F)) h)
 
-groups-after : (F : Chunks) (q k p p′ : ℕ) → q ≤ p → p + k ≡ p′ → GroupsMove (moved q k) p p′ F
-groups-after F q k p p′ h e = groups-move F (moved q k) p p′ (carries-after q k p p′ (length (bytes F)) h e)
+chunks-after : (F : Chunks) (q k p p′ : ℕ) → q ≤ p → p + k ≡ p′ → ChunksMove (moved q k) p p′ F
+chunks-after F q k p p′ h e = chunks-move F (moved q k) p p′ (carries-after q k p p′ (length (bytes F)) h e)
 
 span-length : (X : Chunk) → length (bytesOf X) ≡ span X
 unfolding bytes
@@ -91,65 +92,106 @@ place-high (into i) none p h = absurd h
 place-high (into i) (leaf n d pd F) p h = absurd h
 place-high (into i) (group n t G F) p h = omega (arith, place-high i G (p + 12) h, length-group n t G F)
 
--- the PROP ILBM of a LIST
-prop-inserted : (i : Boundary) (X : Chunk) (F : Chunks) → Ignored X → At i F → (p : ℕ) (scope scope′ : List SharedProp)
-    → SameScope (moved (boundaryPlace i p F) (length (bytesOf X))) scope scope′
-    → SameScope (moved (boundaryPlace i p F) (length (bytesOf X))) (propAmong p F ++ scope) (propAmong p (insert i X F) ++ scope′)
-unfolding propAmong boundaryPlace insert
-prop-inserted here X F g h p scope scope′ s =
-    let c = groups-after F p (length (bytesOf X)) p (p + span X) (omega arith) (ap (λ (k : ℕ). p + k) (span-length X)) in
-    λ name k. rw (prop-past X F g p) (prop-carried _ F p (p + span X) scope scope′ c s name k)
-prop-inserted (past i) X none g h p scope scope′ s = absurd h
-prop-inserted (past i) X (leaf n d pd F) g h p scope scope′ s = prop-inserted i X F g h _ scope scope′ s
-prop-inserted (past i) X (group n t G F) g h p scope scope′ s =
-    let low = place-low i F (p + (12 + length (bytes G))) in
-    group-scope _ (isSharedProp n t) p p G G _ _ scope scope′ (moved-before _ _ p (omega arith)) (λ name k. refl)
-    (prop-inserted i X F g h _ scope scope′ s)
-prop-inserted (into i) X none g h p scope scope′ s = absurd h
-prop-inserted (into i) X (leaf n d pd F) g h p scope scope′ s = absurd h
-prop-inserted (into i) X (group n t G F) g h p scope scope′ s =
-    let low = place-low i G (p + 12) in
+-- what follows an addition inside the first group
+behind :
+    (i : Boundary) (X : Chunk) (G F : Chunks) → At i G → (p : ℕ) →
+    ChunksMove (moved (boundaryPlace i (p + 12) G) (length (bytesOf X))) (p + (12 + length (bytes G))) (p + (12 + length (bytes (insert i X G)))) F
+behind i X G F h p =
     let high = place-high i G (p + 12) h in
     let len = length-insert i X G h in
-    group-scope _ (isSharedProp n t) p p G (insert i X G) _ _ scope scope′ (moved-before _ _ p (omega arith))
-    (λ name k. last-shared name k i X G g nothing)
-    (prop-carried _ F _ _ scope scope′
-    (groups-after F (boundaryPlace i (p + 12) G) (length (bytesOf X)) (p + (12 + length (bytes G))) (p + (12 + length (bytes (insert i X G)))) (omega arith) (omega arith)) s)
+    chunks-after F (boundaryPlace i (p + 12) G) (length (bytesOf X)) _ _ (omega arith) (omega arith)
+
+-- what follows an addition before the first chunk
+shifted : (X : Chunk) (F : Chunks) (p : ℕ) → ChunksMove (moved p (length (bytesOf X))) p (p + span X) F
+shifted X F p = chunks-after F p (length (bytesOf X)) p (p + span X) (omega arith) (ap (λ (k : ℕ). p + k) (span-length X))
+
+-- the last chunk of a name
+named-inserted :
+    (ends : ℕ → Bool) → Passes ends → (name : ℕ) → Known name → (i : Boundary) (X : Chunk) (F : Chunks) → Ignored X → At i F →
+    (p : ℕ) (o o′ : Option Located) → o′ ≡ movedOption (moved (boundaryPlace i p F) (length (bytesOf X))) o →
+    lastNamed ends name p o′ (insert i X F) ≡ movedOption (moved (boundaryPlace i p F) (length (bytesOf X))) (lastNamed ends name p o F)
+unfolding lastNamed boundaryPlace insert
+named-inserted ends e name k here X F g h p o o′ s = named-past ends e name k X F g p o′ ∙ named-carried _ ends name F p _ o o′ (shifted X F p) s
+named-inserted ends e name k (past i) X none g h p o o′ s = absurd h
+named-inserted ends e name k (past i) X (leaf n d pd F) g h p o o′ s =
+    let low = place-low i F (p + (8 + length d + length pd)) in
+    ended-moved _ (ends n) o o′ _ _ s
+    (named-inserted ends e name k i X F g h _ _ _ (pick-moved _ (eqb n name) p p d o o′ (moved-before _ _ p (omega arith)) s))
+named-inserted ends e name k (past i) X (group n t G F) g h p o o′ s = named-inserted ends e name k i X F g h _ o o′ s
+named-inserted ends e name k (into i) X none g h p o o′ s = absurd h
+named-inserted ends e name k (into i) X (leaf n d pd F) g h p o o′ s = absurd h
+named-inserted ends e name k (into i) X (group n t G F) g h p o o′ s = named-carried _ ends name F _ _ o o′ (behind i X G F h p) s
+
+-- the BODYs
+bodies-inserted :
+    (i : Boundary) (X : Chunk) (F : Chunks) → Ignored X → At i F → (p : ℕ) →
+    bodiesFrom p (insert i X F) ≡ movedBodies (moved (boundaryPlace i p F) (length (bytesOf X))) (bodiesFrom p F)
+unfolding bodiesFrom boundaryPlace insert
+bodies-inserted here X F g h p = bodies-past X F g p ∙ bodies-carried _ F p _ (shifted X F p)
+bodies-inserted (past i) X none g h p = absurd h
+bodies-inserted (past i) X (leaf n d pd F) g h p =
+    let low = place-low i F (p + (8 + length d + length pd)) in
+    body-moved _ (eqb n BODY) p p d _ _ (moved-before _ _ p (omega arith)) (bodies-inserted i X F g h _)
+bodies-inserted (past i) X (group n t G F) g h p = bodies-inserted i X F g h _
+bodies-inserted (into i) X none g h p = absurd h
+bodies-inserted (into i) X (leaf n d pd F) g h p = absurd h
+bodies-inserted (into i) X (group n t G F) g h p = bodies-carried _ F _ _ (behind i X G F h p)
+
+-- the scope in a LIST
+scope-inserted :
+    (i : Boundary) (X : Chunk) (F : Chunks) → Ignored X → At i F → (p : ℕ) (scope scope′ : Scope) →
+    SameScope (moved (boundaryPlace i p F) (length (bytesOf X))) scope scope′ →
+    SameScope (moved (boundaryPlace i p F) (length (bytesOf X))) (listScope p F scope) (listScope p (insert i X F) scope′)
+unfolding listScope boundaryPlace insert
+scope-inserted here X F g h p scope scope′ s =
+    λ name k. rw (scope-past X F g p scope′) (scope-carried _ F p (p + span X) scope scope′ (shifted X F p) s name k)
+scope-inserted (past i) X none g h p scope scope′ s = absurd h
+scope-inserted (past i) X (leaf n d pd F) g h p scope scope′ s = scope-inserted i X F g h _ scope scope′ s
+scope-inserted (past i) X (group n t G F) g h p scope scope′ s =
+    let low = place-low i F (p + (12 + length (bytes G))) in
+    let c = chunks-before G (boundaryPlace i (p + (12 + length (bytes G))) F) (length (bytesOf X)) (p + 12) (omega arith) in
+    pick-scope _ (isSharedProp n t) _ _ _ _ (prop-carried _ p p G (moved-before _ _ p (omega arith)) c) (scope-inserted i X F g h _ scope scope′ s)
+scope-inserted (into i) X none g h p scope scope′ s = absurd h
+scope-inserted (into i) X (leaf n d pd F) g h p scope scope′ s = absurd h
+scope-inserted (into i) X (group n t G F) g h p scope scope′ s =
+    let low = place-low i G (p + 12) in
+    pick-scope _ (isSharedProp n t) _ _ _ _
+    (prop-moved _ p p G (insert i X G) (moved-before _ _ p (omega arith))
+    (λ name k. named-inserted nowhere (λ n h. refl) name k i X G g h (p + 12) nothing nothing refl))
+    (scope-carried _ F _ _ scope scope′ (behind i X G F h p) s)
 
 -- the pictures
-pub contents-inserted : (i : Boundary) (X : Chunk) (F : Chunks) → Ignored X → At i F → (p : ℕ) (scope scope′ : List SharedProp)
-    → SameScope (moved (boundaryPlace i p F) (length (bytesOf X))) scope scope′
-    → contentsFrom p scope′ (insert i X F) ≡ mapContents (moved (boundaryPlace i p F) (length (bytesOf X))) (contentsFrom p scope F)
+pub contents-inserted :
+    (i : Boundary) (X : Chunk) (F : Chunks) → Ignored X → At i F → (p : ℕ) (scope scope′ : Scope) →
+    SameScope (moved (boundaryPlace i p F) (length (bytesOf X))) scope scope′ →
+    contentsFrom p scope′ (insert i X F) ≡ mapContents (moved (boundaryPlace i p F) (length (bytesOf X))) (contentsFrom p scope F)
 unfolding contentsFrom boundaryPlace insert
 contents-inserted here X F g h p scope scope′ s =
-    let c = groups-after F p (length (bytesOf X)) p (p + span X) (omega arith) (ap (λ (k : ℕ). p + k) (span-length X)) in
-    contents-past X F g p scope′ ∙ contents-carried _ F p (p + span X) scope scope′ c s
+    contents-past X F g p scope′ ∙ contents-carried _ F p (p + span X) scope scope′ (shifted X F p) s
 contents-inserted (past i) X none g h p scope scope′ s = absurd h
 contents-inserted (past i) X (leaf n d pd F) g h p scope scope′ s = contents-inserted i X F g h _ scope scope′ s
 contents-inserted (past i) X (group n t G F) g h p scope scope′ s =
     let q : ℕ = boundaryPlace i (p + (12 + length (bytes G))) F in
     let move : ℕ → ℕ = moved q (length (bytesOf X)) in
     let low = place-low i F (p + (12 + length (bytes G))) in
-    let c = groups-before G q (length (bytesOf X)) (p + 12) (omega arith) in
-    let s′ = inside-scope move (eqb n LIST) (propAmong (p + 12) G) (propAmong (p + 12) G) scope scope′ s (prop-carried move G _ _ scope scope′ c s) in
-    group-moved move (isPicture n t) (contentOf G scope) _
+    let c = chunks-before G q (length (bytesOf X)) (p + 12) (omega arith) in
+    let s′ = pick-scope move (eqb n LIST) _ _ scope scope′ (scope-carried move G _ _ scope scope′ c s) s in
+    group-moved move (isPicture n t) (contentOf p G scope) _
     (contentsFrom (p + 12) (scopeInside n p G scope) G) _ (contentsFrom (p + (12 + length (bytes G))) scope F) _
-    (content-moved move G G scope scope′ (λ name j. refl) refl s)
+    (content-carried move p p G scope scope′ (moved-before _ _ p (omega arith)) c s)
     (contents-carried move G _ _ (scopeInside n p G scope) (scopeInside n p G scope′) c s′)
     (contents-inserted i X F g h _ scope scope′ s)
 contents-inserted (into i) X none g h p scope scope′ s = absurd h
 contents-inserted (into i) X (leaf n d pd F) g h p scope scope′ s = absurd h
 contents-inserted (into i) X (group n t G F) g h p scope scope′ s =
     let q : ℕ = boundaryPlace i (p + 12) G in
-    let k : ℕ = length (bytesOf X) in
-    let move : ℕ → ℕ = moved q k in
+    let move : ℕ → ℕ = moved q (length (bytesOf X)) in
     let G′ : Chunks = insert i X G in
-    let high = place-high i G (p + 12) h in
-    let len = length-insert i X G h in
-    let c = groups-after F q k (p + (12 + length (bytes G))) (p + (12 + length (bytes G′))) (omega arith) (omega arith) in
-    let s′ = inside-scope move (eqb n LIST) (propAmong (p + 12) G) (propAmong (p + 12) G′) scope scope′ s (prop-inserted i X G g h (p + 12) scope scope′ s) in
-    group-moved move (isPicture n t) (contentOf G scope) _
+    let low = place-low i G (p + 12) in
+    let s′ = pick-scope move (eqb n LIST) _ _ scope scope′ (scope-inserted i X G g h (p + 12) scope scope′ s) s in
+    group-moved move (isPicture n t) (contentOf p G scope) _
     (contentsFrom (p + 12) (scopeInside n p G scope) G) _ (contentsFrom (p + (12 + length (bytes G))) scope F) _
-    (content-moved move G G′ scope scope′ (λ name j. last-own name j i X G g nothing) (same-bodies i X G g) s)
+    (content-moved move p p G G′ scope scope′ (moved-before _ _ p (omega arith))
+    (λ name k. named-inserted atBody (known .6) name k i X G g h (p + 12) nothing nothing refl) (bodies-inserted i X G g h (p + 12)) s)
     (contents-inserted i X G g h (p + 12) (scopeInside n p G scope) (scopeInside n p G′ scope′) s′)
-    (contents-carried move F _ _ scope scope′ c s)
+    (contents-carried move F _ _ scope scope′ (behind i X G F h p) s)

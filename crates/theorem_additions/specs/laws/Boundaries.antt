@@ -10,7 +10,7 @@ use Rattle.iff_chunk.specs.Chunks.{Chunks, none, leaf, group, Chunk, aLeaf, aGr
 use Rattle.iff_grammar.specs.Grammar.{Members}
 use Rattle.iff_name.specs.Codes.{FORM, LIST, CAT, PROP, FILLER, JJJJ}
 use Rattle.ilbm_spec.specs.Names.{ILBM, BMHD, CMAP, BODY}
-use Rattle.ilbm_spec.specs.laws.Ignored.{noPicture}
+use Rattle.ilbm_spec.specs.Contents.{noPicture}
 use Rattle.theorem_additions.specs.Additions.{propTypes, topMembers, Boundary, here, past, into, May, insert}
 use Rattle.theorem_additions.specs.laws.Insert.{no}
 

@@ -1,21 +1,24 @@
 -- No call looks at the place of a shared PROP but to tell it, so where the contents of all pictures are the same but for these places,
 -- every call answers the same but for them.
-use Prim.Native.Nat.{ℕ, zero, suc}
+use Prim.Native.Nat.{ℕ, zero, suc, _+_, _-_}
 use mathlib.Core.Path.{_≡_, refl, sym, ap, _∙_}
 use mathlib.Core.Bool.{Bool, true, false}
 use mathlib.Core.List.{List, [], _∷_}
 use lib.Dec.{eqb}
+use lib.ListN.{length}
+use native.Mathlib.Omega.{arith}
+use borrow.Author.Tests.{ne-eqb}
 use Rattle.iff_name.specs.Name.{pick}
 use Rattle.iff_chunk.specs.Chunks.{Chunk}
 use Rattle.iff_tree.specs.Judge.{Found, found, readFile, refused}
 use Rattle.ilbm_spec.specs.declared.BitmapHeader.{BitmapHeader}
-use Rattle.ilbm_spec.specs.Contents.{Property, own, shared, absent, Content, contentsOf}
+use Rattle.ilbm_spec.specs.Contents.{Located, Property, own, shared, absent, Content, contentsOf, movedLocated, movedProperty, movedBodies, movedContent}
 use Rattle.ilbm_spec.specs.Pictures.{dataOf, counts, headerIn, wrongSize, pictureRefusal, Viewed, judged, pickContent, viewIn, viewOf}
-use Rattle.ilbm_spec.specs.Pictures.{pictureAnswer, paletteFrom}
-use Rattle.ilbm_spec.specs.Palette.{answerIn}
-use Rattle.ilbm_spec.specs.Rows.{Read, onBody, askRows, lineRead, frameRead}
-use Rattle.ilbm_spec.specs.laws.Moved.{movedProperty, movedContent, mapContents}
-use Rattle.theorem_additions.specs.Statement.{movedView, SameAnswers}
+use Rattle.ilbm_spec.specs.Pictures.{originOf, pictureFrom, pictureAnswer, paletteFrom}
+use Rattle.ilbm_spec.specs.Palette.{answerIn, extentOf, extentFrom, extentIn}
+use Rattle.ilbm_spec.specs.Rows.{Read, onBody, askRows, lineRead, frameRead, lineOf, frameOf, lineAnswer, frameAnswer, bytesAfter}
+use Rattle.ilbm_spec.specs.laws.Moved.{mapContents}
+use Rattle.theorem_additions.specs.Statement.{movedView, movedOrigin, movedAnswer, movedExtent, SameAnswers}
 
 module _ (move : ℕ → ℕ) where
   counts-moved : (q : Property) → counts (movedProperty move q) ≡ counts q
@@ -28,9 +31,19 @@ module _ (move : ℕ → ℕ) where
   data-moved (shared p d) = refl
   data-moved absent = refl
 
+  origin-moved : (q : Property) → originOf (movedProperty move q) ≡ movedOrigin move (originOf q)
+  origin-moved (own x) = refl
+  origin-moved (shared p x) = refl
+  origin-moved absent = refl
+
+  count-moved : (xs : List Located) → length (movedBodies move xs) ≡ length xs
+  unfolding movedBodies
+  count-moved [] = refl
+  count-moved (x ∷ xs) = ap suc (count-moved xs)
+
   refusal-moved : (c : Content) → pictureRefusal (movedContent move c) ≡ pictureRefusal c
   unfolding pictureRefusal wrongSize
-  refusal-moved c = simp (counts-moved, data-moved)
+  refusal-moved c = rw (count-moved (c .bodies)) (simp (counts-moved, data-moved))
 
   judged-moved : (c : Content) → judged (movedContent move c) ≡ movedView move (judged c)
   judged-moved c = rw (refusal-moved c) (go (eqb (pictureRefusal c) 0))
@@ -54,18 +67,46 @@ module _ (move : ℕ → ℕ) where
   palette-moved (found c) default = rw (palette-from (c .cmap) default)
   palette-moved (refused k p) default = refl
 
+  picture-moved : (v : Viewed) → pictureAnswer (movedView move v) ≡ movedAnswer move (pictureAnswer v)
+  unfolding pictureFrom
+  picture-moved (found c) = simp (data-moved, origin-moved)
+  picture-moved (refused k p) = refl
+
+  located-moved : (x : Located) → extentOf (movedLocated move x) ≡ movedExtent move (extentOf x)
+  located-moved x =
+      let one : x .place + 8 - 8 ≡ x .place = omega arith in
+      let two : x .place + 8 + length (x .content) - (x .place + 8) ≡ length (x .content) = omega arith in
+      rw (ne-eqb (x .place + 8) 0 (λ e. omega arith), one, two)
+
+  extent-from : (q : Property) → extentFrom (movedProperty move q) ≡ movedExtent move (extentFrom q)
+  extent-from (own x) = located-moved x
+  extent-from (shared p x) = located-moved x
+  extent-from absent = refl
+
+  extent-moved : (v : Viewed) → extentIn (movedView move v) ≡ movedExtent move (extentIn v)
+  extent-moved (found c) = extent-from (c .cmap)
+  extent-moved (refused k p) = refl
+
+  on-moved : (bs : List Located) (rows : List ℕ → Read (List ℕ)) → onBody (movedBodies move bs) rows ≡ onBody bs rows
+  unfolding movedBodies
+  on-moved [] rows = refl
+  on-moved (b ∷ bs) rows = refl
+
   rows-moved : (v : Viewed) (rows : BitmapHeader → List ℕ → Read (List ℕ)) → askRows (movedView move v) rows ≡ askRows v rows
-  rows-moved (found c) rows = ap (λ (d : List ℕ). onBody (c .bodies) (λ body. rows (headerIn d) body)) (data-moved (c .bmhd))
+  rows-moved (found c) rows =
+      on-moved (c .bodies) (λ body. rows (headerIn (dataOf (movedProperty move (c .bmhd)))) body) ∙
+      ap (λ (d : List ℕ). onBody (c .bodies) (λ body. rows (headerIn d) body)) (data-moved (c .bmhd))
   rows-moved (refused k p) rows = refl
 
   pub same-answers : (f g : List ℕ) (c c′ : Chunk) → readFile f ≡ found c → readFile g ≡ found c′
       → contentsOf c′ ≡ mapContents move (contentsOf c) → SameAnswers f g move
   same-answers f g c c′ ef eg e = record {
     views = view;
-    pictures = λ i. ap pictureAnswer (view i);
+    pictures = λ i. ap pictureAnswer (view i) ∙ picture-moved (viewOf f i);
     palettes = λ i default. ap (λ (v : Viewed). answerIn v default) (view i) ∙ palette-moved (viewOf f i) default;
-    lines = λ i start room. ap (λ (v : Viewed). lineRead v start room) (view i) ∙ rows-moved (viewOf f i) _;
-    frames = λ i room. ap (λ (v : Viewed). frameRead v room) (view i) ∙ rows-moved (viewOf f i) _;
+    extents = λ i. ap extentIn (view i) ∙ extent-moved (viewOf f i);
+    lines = λ i start row. ap (λ (x : Read (List ℕ)). (lineAnswer x, bytesAfter x row)) (line i start (length row));
+    frames = λ i frame. ap (λ (x : Read (List ℕ)). (frameAnswer x, bytesAfter x frame)) (whole i (length frame));
   }
     where
       view : (i : ℕ) → viewOf g i ≡ movedView move (viewOf f i)
@@ -74,3 +115,9 @@ module _ (move : ℕ → ℕ) where
           ∙ ap (λ (l : List Content). pickContent l i) e
           ∙ pick-moved (contentsOf c) i
           ∙ ap (λ (r : Found Chunk). movedView move (viewIn r i)) (sym ef)
+
+      line : (i start room : ℕ) → lineOf g i start room ≡ lineOf f i start room
+      line i start room = ap (λ (v : Viewed). lineRead v start room) (view i) ∙ rows-moved (viewOf f i) _
+
+      whole : (i room : ℕ) → frameOf g i room ≡ frameOf f i room
+      whole i room = ap (λ (v : Viewed). frameRead v room) (view i) ∙ rows-moved (viewOf f i) _

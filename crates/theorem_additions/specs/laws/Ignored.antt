@@ -1,10 +1,8 @@
 -- What may be added is nothing that a picture looks at: a leaf of a foreign name, a group that is no PROP ILBM and with no picture in it.
--- So the last property, the BODYs and the shared PROP's members stay, by the laws of `ilbm` at the boundary and by induction up to it.
 use Prim.Native.Nat.{ℕ}
-use mathlib.Core.Path.{_≡_, refl, sym, ap, subst}
+use mathlib.Core.Path.{_≡_, refl, sym, subst}
 use mathlib.Core.Bool.{Bool, true, false}
-use mathlib.Core.List.{List, [], _∷_, _++_}
-use mathlib.Core.Option.{Option, some}
+use mathlib.Core.List.{List, []}
 use lib.Dec.{eqb}
 use borrow.Author.Tests.{eqb-true}
 use Rattle.iff_name.specs.Name.{pick, kindOf}
@@ -15,9 +13,9 @@ use Rattle.iff_rules.specs.declared.Position.the-variants.{Outermost, InForm, I
 use Rattle.iff_chunk.specs.Chunks.{Chunks, none, leaf, group, Chunk, aLeaf, aGroup}
 use Rattle.iff_rules.specs.Rules.{isGroup, inProp, inside}
 use Rattle.iff_grammar.specs.Grammar.{Members}
-use Rattle.ilbm_spec.specs.Names.{ILBM, BODY, isPictureType}
-use Rattle.ilbm_spec.specs.Contents.{lastOwn, lastShared, bodiesIn}
-use Rattle.ilbm_spec.specs.laws.Ignored.{foreign, noPicture, Ignored, Known, own-past, shared-past, bodies-past}
+use Rattle.ilbm_spec.specs.Names.{isPictureType, foreign}
+use Rattle.ilbm_spec.specs.Contents.{noPicture}
+use Rattle.ilbm_spec.specs.laws.Ignored.{Ignored}
 use Rattle.theorem_additions.specs.Additions.{LocalMay, LeafMay, GroupMay, PropMay, Boundary, here, past, into, May, insert}
 use Rattle.theorem_additions.specs.laws.Insert.{no}
 use Rattle.iff_name.specs.Codes as Codes
@@ -92,35 +90,3 @@ may-ignored (into i) X (leaf n d p F) w seen h = absurd h
 may-ignored (into i) X (group n t G F) w seen h = may-ignored i X G _ [] h
 
 -- the last property of a name, in a FORM and in a PROP, and the BODYs
-pub last-own : (name : ℕ) → Known name → (i : Boundary) (X : Chunk) (F : Chunks) → Ignored X → (so-far : Option (List ℕ))
-    → lastOwn name so-far (insert i X F) ≡ lastOwn name so-far F
-unfolding lastOwn insert
-last-own name k here X F g o = own-past name k X F g o
-last-own name k (past i) X none g o = refl
-last-own name k (past i) X (leaf n d p F) g o =
-    ap (λ (r : Option (List ℕ)). pick (eqb n BODY) o r) (last-own name k i X F g (pick (eqb n name) (some d) o))
-last-own name k (past i) X (group n t G F) g o = last-own name k i X F g o
-last-own name k (into i) X none g o = refl
-last-own name k (into i) X (leaf n d p F) g o = refl
-last-own name k (into i) X (group n t G F) g o = refl
-
-pub last-shared : (name : ℕ) → Known name → (i : Boundary) (X : Chunk) (F : Chunks) → Ignored X → (so-far : Option (List ℕ))
-    → lastShared name so-far (insert i X F) ≡ lastShared name so-far F
-unfolding lastShared insert
-last-shared name k here X F g o = shared-past name k X F g o
-last-shared name k (past i) X none g o = refl
-last-shared name k (past i) X (leaf n d p F) g o = last-shared name k i X F g (pick (eqb n name) (some d) o)
-last-shared name k (past i) X (group n t G F) g o = last-shared name k i X F g o
-last-shared name k (into i) X none g o = refl
-last-shared name k (into i) X (leaf n d p F) g o = refl
-last-shared name k (into i) X (group n t G F) g o = refl
-
-pub same-bodies : (i : Boundary) (X : Chunk) (F : Chunks) → Ignored X → bodiesIn (insert i X F) ≡ bodiesIn F
-unfolding bodiesIn insert
-same-bodies here X F g = bodies-past X F g
-same-bodies (past i) X none g = refl
-same-bodies (past i) X (leaf n d p F) g = ap (λ (r : List (List ℕ)). pick (eqb n BODY) (d ∷ []) [] ++ r) (same-bodies i X F g)
-same-bodies (past i) X (group n t G F) g = same-bodies i X F g
-same-bodies (into i) X none g = refl
-same-bodies (into i) X (leaf n d p F) g = refl
-same-bodies (into i) X (group n t G F) g = refl

@@ -25,8 +25,10 @@ use Rattle.iff_grammar.specs.laws.Props.{Seen, seen-start, seen-step}
 use Rattle.iff_grammar.specs.laws.Headers.{header-leaf, header-group, new-second}
 use Rattle.iff_grammar.specs.laws.Complete.{group-complete, run-complete}
 use Rattle.ilbm_spec.specs.Pictures.{viewIn, pictureAnswer}
-use Rattle.ilbm_spec.specs.Palette.{answerIn}
-use Rattle.ilbm_spec.specs.Rows.{lineRead, frameRead}
+use Rattle.ilbm_spec.specs.Palette.{answerIn, extentIn}
+use Rattle.ilbm_spec.specs.declared.LineAnswer.{LineAnswer}
+use Rattle.ilbm_spec.specs.declared.FrameAnswer.{FrameAnswer}
+use Rattle.ilbm_spec.specs.Rows.{Read, lineRead, frameRead, lineAnswer, frameAnswer, bytesAfter}
 use Rattle.theorem_additions.specs.Statement.{AllRefused}
 use Rattle.theorem_additions.specs.laws.Bytes.{pass}
 use Rattle.theorem_additions.specs.laws.Places.{HeaderAt, none-case, leaf-cases, group-cases, header-low}
@@ -193,6 +195,12 @@ module _ (s g : List ℕ) (m : ℕ) (same : take m g ≡ take m s) (version : ve
       let chunk = group-stops 15 g 0 Outermost 0 (length g) (kindOf n) z 3 m head inner in
       rw (le-ltb 16777216 (length g) short′, le-ltb (length g) 4 (omega arith), name, not-version, x .1, chunk)
 
+abbrev lineIn : Read (List ℕ) → List ℕ → LineAnswer × List ℕ
+lineIn x row = (lineAnswer x, bytesAfter x row)
+
+abbrev frameIn : Read (List ℕ) → List ℕ → FrameAnswer × List ℕ
+frameIn x frame = (frameAnswer x, bytesAfter x frame)
+
 -- a file that is refused gives its refusal to every call
 pub all-refused : (g : List ℕ) (p : ℕ) → readFile g ≡ refused 3 p → AllRefused g p
 all-refused g p e = record {
@@ -200,6 +208,7 @@ all-refused g p e = record {
   views = λ i. ap (λ (r : Found Chunk). viewIn r i) e;
   pictures = λ i. ap (λ (r : Found Chunk). pictureAnswer (viewIn r i)) e;
   palettes = λ i default. ap (λ (r : Found Chunk). answerIn (viewIn r i) default) e;
-  lines = λ i start room. ap (λ (r : Found Chunk). lineRead (viewIn r i) start room) e;
-  frames = λ i room. ap (λ (r : Found Chunk). frameRead (viewIn r i) room) e;
+  extents = λ i. ap (λ (r : Found Chunk). extentIn (viewIn r i)) e;
+  lines = λ i start row. ap (λ (r : Found Chunk). lineIn (lineRead (viewIn r i) start (length row)) row) e;
+  frames = λ i frame. ap (λ (r : Found Chunk). frameIn (frameRead (viewIn r i) (length frame)) frame) e;
 }
