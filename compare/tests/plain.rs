@@ -2,7 +2,7 @@
 
 use compare::fixed::{examples, variations};
 use compare::large::{leaves, props};
-use compare::listings::Table;
+use compare::listings::{fill, Table};
 use compare::plain;
 use second::generate;
 use second::random::Random;
@@ -39,17 +39,15 @@ fn large_files() {
     [leaves(200_000), props(100_000), twice].iter().for_each(|file| same_structure(file));
 }
 
+/// The table that the library fills, which is compared with the second reader's elsewhere.
 #[test]
 fn tables() {
     for file in generated() {
-        let Ok(records) = second::records(&file) else { continue };
-        let mut table = Table::new(records.len());
-        assert_eq!(plain::fill(&file, &mut table), records.len());
-        for (n, record) in records.iter().enumerate() {
-            assert_eq!((table.numbers[n], table.levels[n]), (record.number, record.level));
-            assert_eq!(table.names[n].to_be_bytes(), record.name.0);
-            assert_eq!((table.places[n], table.sizes[n]), (record.place, record.size));
-        }
+        let Ok(accepted) = second::check(&file) else { continue };
+        let [mut table, mut known] = [0, 0].map(|_| Table::new(accepted.chunks));
+        assert_eq!(plain::fill(&file, &mut table), accepted.chunks);
+        assert_eq!(fill(&file, &mut known), 0);
+        assert!(table == known);
     }
 }
 
