@@ -1,5 +1,3 @@
-pub mod Bytes
-pub mod Examples
-pub mod Laws
 pub mod Pack
 pub mod Written
+pub mod laws

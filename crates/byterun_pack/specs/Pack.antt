@@ -3,7 +3,7 @@ use Prim.Native.Nat.{ℕ, zero, suc, _-_}
 use mathlib.Core.List.{List, [], _∷_, _++_}
 use lib.ListN.{length, getD, take, drop}
 use lib.Dec.{ltb, eqb}
-use Rattle.byterun_row.specs.ByteRun.{pick}
+use Rattle.iff_name.specs.Name.{pick}
 use Rattle.byterun_pieces.specs.declared.Piece.{Piece}
 use Rattle.byterun_pieces.specs.declared.Piece.the-variants.{Repeat, Literal}
 use Rattle.byterun_pieces.specs.Pieces.{pieceOf}
@@ -38,10 +38,10 @@ outAfter BadLength row out = out
 outAfter NoRoom row out = out
 
 -- the number of an answer, and the length that it tells
-abbrev pub numberOf : PackAnswer → ℕ
-numberOf (Written k) = 0
-numberOf BadLength = 31
-numberOf NoRoom = 32
+abbrev pub packNumber : PackAnswer → ℕ
+packNumber (Written k) = 0
+packNumber BadLength = 31
+packNumber NoRoom = 32
 
 abbrev pub lengthOf : PackAnswer → ℕ
 lengthOf (Written k) = k

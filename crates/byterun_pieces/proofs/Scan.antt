@@ -9,7 +9,7 @@ use lib.Dec.{ltb, eqb}
 use borrow.Author.Tests.{eq-eqb, ne-eqb, eqb-true, ltb-true, ltb-false}
 use native.Mathlib.Omega.{arith}
 use native.Mathlib.Nat.{add-zero}
-use Rattle.byterun_row.specs.ByteRun.{pick}
+use Rattle.iff_name.specs.Name.{pick}
 use Rattle.byterun_pieces.specs.Pieces.{three, Four, sameFor, plainFor, pieceOf}
 use Rattle.byterun_pieces.specs.declared.Piece.the-variants.{Repeat, Literal}
 

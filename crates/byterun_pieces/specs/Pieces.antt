@@ -5,7 +5,7 @@ use mathlib.Core.List.{List, [], _∷_}
 use mathlib.Core.Bool.{Bool, false}
 use lib.ListN.{getD}
 use lib.Dec.{eqb}
-use Rattle.byterun_row.specs.ByteRun.{pick}
+use Rattle.iff_name.specs.Name.{pick}
 use Rattle.byterun_pieces.specs.declared.Piece.{Piece}
 use Rattle.byterun_pieces.specs.declared.Piece.the-variants.{Repeat, Literal}
 

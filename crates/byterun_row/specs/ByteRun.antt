@@ -1,9 +1,9 @@
 -- One plane row, read from a place in a BODY: plain, or packed by ByteRun1.
 use Prim.Native.Nat.{ℕ, zero, suc, _+_, _-_}
 use mathlib.Core.List.{List, [], _++_}
-use mathlib.Core.Bool.{Bool, true, false}
 use lib.ListN.{length, getD, take, drop, replicate}
 use lib.Dec.{ltb, leb, eqb}
+use Rattle.iff_name.specs.Name.{pick}
 use Rattle.byterun_row.specs.declared.Code.{Code}
 use Rattle.byterun_row.specs.declared.Code.the-variants.{Missing, Skip, Copy, Repeat, Long, Cut}
 use Rattle.byterun_row.specs.declared.RowAnswer.{RowAnswer}
@@ -15,11 +15,6 @@ pub data Row : Type 0 where
   filled : List ℕ → ℕ → Row
   over : ℕ → Row
   short : ℕ → Row
-
--- a choice by a test
-abbrev pub pick : {A : Type 0} → Bool → A → A → A
-pick true a b = a
-pick false a b = b
 
 -- A run of `count` bytes whose code byte at i has `tail` bytes after it. "At one code byte 27 comes before 26."
 abbrev pub fitted : List ℕ → ℕ → ℕ → ℕ → ℕ → Code → Code
@@ -83,15 +78,15 @@ bytesAfter (over q) old = old
 bytesAfter (short q) old = old
 
 -- the number of an answer, 0 for a full row, and its place: the next row's start, or where the fault is
-abbrev pub numberOf : RowAnswer → ℕ
-numberOf (Full q) = 0
-numberOf (Oversteps q) = 27
-numberOf (Ends q) = 26
+abbrev pub rowNumber : RowAnswer → ℕ
+rowNumber (Full q) = 0
+rowNumber (Oversteps q) = 27
+rowNumber (Ends q) = 26
 
-abbrev pub placeOf : RowAnswer → ℕ
-placeOf (Full q) = q
-placeOf (Oversteps q) = q
-placeOf (Ends q) = q
+abbrev pub rowPlace : RowAnswer → ℕ
+rowPlace (Full q) = q
+rowPlace (Oversteps q) = q
+rowPlace (Ends q) = q
 
 -- a row that was read whole
 abbrev pub IsFull : Row → Type 0

@@ -1,5 +1,3 @@
 pub mod ByteRun
-pub mod Bytes
-pub mod Examples
-pub mod Laws
 pub mod Packing
+pub mod laws

@@ -11,7 +11,8 @@ use mir.Val.{Fits}
 use borrow.Author.Tests.{le-leb, leb-true}
 use native.Mathlib.Nat.{zero-add}
 use native.Mathlib.Omega.{arith}
-use Rattle.byterun_row.specs.ByteRun.{Row, filled, over, short, pick, plainRow, answerOf, bytesAfter, IsFull}
+use Rattle.iff_name.specs.Name.{pick}
+use Rattle.byterun_row.specs.ByteRun.{Row, filled, over, short, plainRow, answerOf, bytesAfter, IsFull}
 use Rattle.byterun_row.specs.declared.RowAnswer.{RowAnswer}
 use Rattle.byterun_row.specs.declared.RowAnswer.the-variants.{Full, Oversteps, Ends}
 

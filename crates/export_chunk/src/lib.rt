@@ -2,11 +2,11 @@
 // Each returns 0 or the number of a refusal; whatever else it tells is 0 beside a refusal, but its place.
 use list_spec::Extent;
 use list_spec::Listed;
-use export_numbers::kind_number;
+use iff_name::kind_number;
 ghost use mathlib.Core.Path.{_≡_};
 ghost use Rattle.list_spec.specs.Records.{recordOf};
 ghost use Rattle.list_spec.specs.Contents.{extentOf};
-ghost use Rattle.export_chunk.specs.Numbers.{recordTold, dataTold};
+ghost use Rattle.export_chunk.specs.Numbers.{recordNumbers, dataNumbers};
 
 // The record of a chunk by its number.
 #[no_mangle]
@@ -28,7 +28,7 @@ pub extern "C" fn iff_record(
       name = now (name .exit);
       at = now (at .exit);
       size = now (size .exit);
-    } ≡ recordTold (recordOf (now (file .entry)) number) ⌝ }
+    } ≡ recordNumbers (recordOf (now (file .entry)) number) ⌝ }
 {
     let v = list_by_number::record_by_number(file, number);
     match v {
@@ -67,7 +67,7 @@ pub extern "C" fn iff_data(
     to: &mut usize,
 ) -> usize
     ensures { λ r. ⌜ record { number = r; place = now (place .exit); from = now (from .exit); to = now (to .exit) }
-        ≡ dataTold (extentOf (now (file .entry)) number) ⌝ }
+        ≡ dataNumbers (extentOf (now (file .entry)) number) ⌝ }
 {
     let v = list_data::data_extent(file, number);
     match v {

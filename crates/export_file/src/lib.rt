@@ -8,7 +8,7 @@ ghost use lib.ListN.{length};
 ghost use Rattle.iff_tree.specs.Judge.{checkOf};
 ghost use Rattle.iff_copy.specs.Clean.{copyOf, copiedInto};
 ghost use Rattle.ilbm_count.specs.Count.{countOf};
-ghost use Rattle.export_file.specs.Numbers.{checkTold, copyTold, countTold};
+ghost use Rattle.export_file.specs.Numbers.{checkNumbers, copyNumbers, countNumbers};
 
 // Judges a file: chunks, end of the outermost chunk, bytes after it.
 #[no_mangle]
@@ -20,7 +20,7 @@ pub extern "C" fn iff_check(
     trailing: &mut usize,
 ) -> usize
     ensures { λ r. ⌜ record { number = r; place = now (place .exit); chunks = now (chunks .exit); end = now (end .exit); trailing = now (trailing .exit) }
-        ≡ checkTold (checkOf (now (file .entry))) ⌝ }
+        ≡ checkNumbers (checkOf (now (file .entry))) ⌝ }
 {
     let v = iff_tree::check(file);
     match v {
@@ -53,8 +53,8 @@ pub extern "C" fn iff_clean_copy(
     place: &mut usize,
     written: &mut usize,
 ) -> usize
-    ensures told { λ r. ⌜ record { number = r; place = now (place .exit); value = now (written .exit) }
-        ≡ copyTold (copyOf (now (file .entry)) (length (now (out .entry)))) ⌝ }
+    ensures answer { λ r. ⌜ record { number = r; place = now (place .exit); value = now (written .exit) }
+        ≡ copyNumbers (copyOf (now (file .entry)) (length (now (out .entry)))) ⌝ }
     ensures copied { λ _. ⌜ now (out .exit) ≡ copiedInto (now (file .entry)) (now (out .entry)) ⌝ }
 {
     let v = iff_copy::clean_copy(file, out);
@@ -75,7 +75,7 @@ pub extern "C" fn iff_clean_copy(
 // How many pictures a file has.
 #[no_mangle]
 pub extern "C" fn iff_count_pictures(file: &[u8], place: &mut usize, pictures: &mut usize) -> usize
-    ensures { λ r. ⌜ record { number = r; place = now (place .exit); value = now (pictures .exit) } ≡ countTold (countOf (now (file .entry))) ⌝ }
+    ensures { λ r. ⌜ record { number = r; place = now (place .exit); value = now (pictures .exit) } ≡ countNumbers (countOf (now (file .entry))) ⌝ }
 {
     let v = ilbm_count::count_pictures(file);
     match v {

@@ -5,8 +5,9 @@ use mathlib.Core.List.{List, []}
 use mathlib.Core.Option.{some}
 use lib.ListN.{length}
 use lib.Seq.{slice}
-use Rattle.iff_grammar.specs.Words.{slice-take}
-use Rattle.ilbm_spec.specs.Contents.{CMAP, Property, own, shared, absent}
+use Rattle.iff_grammar.specs.laws.Words.{slice-take}
+use Rattle.ilbm_spec.specs.Names.{CMAP}
+use Rattle.ilbm_spec.specs.Contents.{Property, own, shared, absent}
 use Rattle.ilbm_spec.specs.Places.{placeOf}
 use Rattle.ilbm_spec.specs.Pictures.{Viewed, viewOf, dataOf, originOf, paletteFrom, paletteBytes, paletteOf}
 use Rattle.ilbm_members.specs.Members.{Shows, fromOf}
@@ -16,11 +17,11 @@ use Rattle.ilbm_content.specs.declared.Held.{Held}
 use Rattle.ilbm_content.specs.declared.Contents.{Contents}
 use Rattle.ilbm_content.specs.Held.{HeldIs}
 use Rattle.ilbm_find.specs.declared.View.{View}
-use Rattle.ilbm_find.specs.declared.View.the-variants.{Seen, Unseen}
+use Rattle.ilbm_find.specs.declared.View.the-variants.{Seen, Refused as View-refused}
 use Rattle.ilbm_find.specs.Seen.{ViewIs, Begins, Placed}
 use Rattle.export_property_numbers.specs.Properties.{originNumber, sharedPlace}
 use Rattle.export_palette.specs.declared.PaletteParts.{PaletteParts}
-use Rattle.export_palette.specs.Palette.{paletteTold, paletteExtent, toOf, paletteParts}
+use Rattle.export_palette.specs.Palette.{paletteNumbers, paletteExtent, toOf, paletteParts}
 
 -- the parts of a view
 module _ (v : View) (c : Contents) (b : v ≡ Seen c) (k m f t : ℕ) where
@@ -31,7 +32,7 @@ module _ (v : View) (c : Contents) (b : v ≡ Seen c) (k m f t : ℕ) where
   parts-seen h i j l = rw (b, h, i, j, l)
 
 pub parts-unseen :
-    (v : View) (k m : ℕ) → v ≡ Unseen k m →
+    (v : View) (k m : ℕ) → v ≡ View-refused k m →
     _≡_ {A = PaletteParts} (record { number = k; place = m; origin = 0; shared = 0; from = 0; to = 0 }) (paletteParts v)
 unfolding paletteParts
 parts-unseen v k m b = rw b
@@ -60,24 +61,24 @@ origin-is s h (own d) k = k .0
 origin-is s h (shared p d) k = k .0
 origin-is s h absent k = k .0
 
-parts-told :
-    (s : List ℕ) (y : Viewed) (v : View) (place : ℕ → ℕ) → ViewIs s v y → Begins v place → paletteParts v ≡ paletteTold y (place CMAP)
-unfolding paletteParts paletteTold
-parts-told s y (Seen c) place (x, e, k, f) w =
+parts-numbers :
+    (s : List ℕ) (y : Viewed) (v : View) (place : ℕ → ℕ) → ViewIs s v y → Begins v place → paletteParts v ≡ paletteNumbers y (place CMAP)
+unfolding paletteParts paletteNumbers
+parts-numbers s y (Seen c) place (x, e, k, f) w =
     rw (e, ← w .cmap, origin-is s (c .cmap) (x .cmap) (k .cmap), held-to s (c .cmap) (x .cmap) (k .cmap))
-parts-told s y (Unseen k p) place e w = rw e
+parts-numbers s y (View-refused k p) place e w = rw e
 
 parts-hold : (s : List ℕ) (y : Viewed) (v : View) → ViewIs s v y → slice (paletteParts v .from) (paletteParts v .to) s ≡ paletteBytes y []
 unfolding paletteParts
 parts-hold s y (Seen c) (x, e, k, f) = rw e (held-holds s (c .cmap) (x .cmap) (k .cmap))
-parts-hold s y (Unseen k p) e = rw e (slice-take s 0 0)
+parts-hold s y (View-refused k p) e = rw e (slice-take s 0 0)
 
 module _ (s : List ℕ) (i : ℕ) (v : View) (w : ViewIs s v (viewOf s i)) (r : PaletteParts) (j : r ≡ paletteParts v) where
-  pub palette-told :
+  pub palette-numbers :
       Placed s i v →
       _≡_ {A = PaletteParts} (record { number = r .number; place = r .place; origin = r .origin; shared = r .shared; from = r .from; to = r .to })
       (paletteExtent s i)
-  palette-told x = j ∙ parts-told s (viewOf s i) v (λ name. placeOf s i name) w (x .at)
+  palette-numbers x = j ∙ parts-numbers s (viewOf s i) v (λ name. placeOf s i name) w (x .at)
 
   pub palette-part : slice (r .from) (r .to) s ≡ paletteOf s i []
   palette-part = rw j (parts-hold s (viewOf s i) v w)

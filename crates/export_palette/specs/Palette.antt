@@ -2,21 +2,22 @@
 use Prim.Native.Nat.{ℕ, _+_}
 use mathlib.Core.List.{List}
 use lib.ListN.{length}
-use Rattle.ilbm_spec.specs.Contents.{CMAP}
+use Rattle.ilbm_spec.specs.Names.{CMAP}
 use Rattle.ilbm_spec.specs.Places.{placeOf}
-use Rattle.ilbm_spec.specs.Pictures.{Viewed, viewed, unseen, viewOf, dataOf, originOf}
+use Rattle.ilbm_spec.specs.Pictures.{Viewed, viewOf, dataOf, originOf}
 use Rattle.ilbm_members.specs.Members.{fromOf}
 use Rattle.ilbm_members.specs.declared.Part.{Part}
 use Rattle.ilbm_members.specs.declared.Part.the-variants.{Nothing, Between}
 use Rattle.ilbm_find.specs.declared.View.{View}
-use Rattle.ilbm_find.specs.declared.View.the-variants.{Seen, Unseen}
+use Rattle.ilbm_find.specs.declared.View.the-variants.{Seen, Refused as View-refused}
 use Rattle.export_property_numbers.specs.Properties.{originNumber, sharedPlace}
+use Rattle.iff_tree.specs.Judge.{found, refused}
 use Rattle.export_palette.specs.declared.PaletteParts.{PaletteParts}
 
 -- The CMAP that counts: its origin, and where its data lies, "handed back as a part of the slice it came from"; 0 and 0 where none
 -- counts, and after a refusal.
-unfoldable pub paletteTold : Viewed → ℕ → PaletteParts
-paletteTold (viewed c) start =
+unfoldable pub paletteNumbers : Viewed → ℕ → PaletteParts
+paletteNumbers (found c) start =
     record {
       number = 0;
       place = 0;
@@ -25,10 +26,10 @@ paletteTold (viewed c) start =
       from = start;
       to = start + length (dataOf (c .cmap));
     }
-paletteTold (unseen k p) start = record { number = k; place = p; origin = 0; shared = 0; from = 0; to = 0 }
+paletteNumbers (refused k p) start = record { number = k; place = p; origin = 0; shared = 0; from = 0; to = 0 }
 
 abbrev pub paletteExtent : List ℕ → ℕ → PaletteParts
-paletteExtent s i = paletteTold (viewOf s i) (placeOf s i CMAP)
+paletteExtent s i = paletteNumbers (viewOf s i) (placeOf s i CMAP)
 
 -- the same of the parts that a view gives
 abbrev pub toOf : Part → ℕ
@@ -45,4 +46,4 @@ paletteParts (Seen c) =
       from = fromOf (c .cmap .part);
       to = toOf (c .cmap .part);
     }
-paletteParts (Unseen k p) = record { number = k; place = p; origin = 0; shared = 0; from = 0; to = 0 }
+paletteParts (View-refused k p) = record { number = k; place = p; origin = 0; shared = 0; from = 0; to = 0 }

@@ -57,7 +57,7 @@ fn palette_parts(v: View) -> PaletteParts
                 to: part_to(part),
             }
         }
-        View::Unseen(number, place) => PaletteParts {
+        View::Refused(number, place) => PaletteParts {
             number,
             place,
             origin: 0,
@@ -79,7 +79,7 @@ pub extern "C" fn ilbm_palette(
     from: &mut usize,
     to: &mut usize,
 ) -> usize
-    ensures told { λ r. ⌜ record {
+    ensures answer { λ r. ⌜ record {
       number = r;
       place = now (place .exit);
       origin = now (origin .exit);
@@ -89,11 +89,11 @@ pub extern "C" fn ilbm_palette(
     } ≡ paletteExtent (now (file .entry)) number ⌝ }
     ensures part { λ _. ⌜ slice (now (from .exit)) (now (to .exit)) (now (file .entry)) ≡ paletteOf (now (file .entry)) number [] ⌝ }
 {
-    let told = palette_parts(view_picture(file, number));
-    *place = told.place;
-    *origin = told.origin;
-    *shared = told.shared;
-    *from = told.from;
-    *to = told.to;
-    told.number
+    let numbers = palette_parts(view_picture(file, number));
+    *place = numbers.place;
+    *origin = numbers.origin;
+    *shared = numbers.shared;
+    *from = numbers.from;
+    *to = numbers.to;
+    numbers.number
 }

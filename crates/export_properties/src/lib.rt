@@ -1,14 +1,14 @@
 // The exported calls on a picture's properties but its palette. Each returns 0 or the number of a refusal; whatever else it tells is 0 beside
 // a refusal, but its place.
-use export_property_numbers::destination_told;
-use export_property_numbers::grab_told;
-use export_property_numbers::header_told;
-use export_property_numbers::sprite_told;
-use export_property_numbers::view_mode_told;
+use export_property_numbers::destination_numbers;
+use export_property_numbers::grab_numbers;
+use export_property_numbers::header_numbers;
+use export_property_numbers::sprite_numbers;
+use export_property_numbers::view_mode_numbers;
 use ilbm_properties::picture;
 ghost use mathlib.Core.Path.{_≡_};
 ghost use Rattle.ilbm_spec.specs.Pictures.{pictureOf};
-ghost use Rattle.export_property_numbers.specs.Properties.{headerTold, grabTold, destinationTold, spriteTold, viewModeTold};
+ghost use Rattle.export_property_numbers.specs.Properties.{headerNumbers, grabNumbers, destinationNumbers, spriteNumbers, viewModeNumbers};
 
 // The fields of the BMHD that counts for a picture, and its origin.
 #[no_mangle]
@@ -52,15 +52,15 @@ pub extern "C" fn ilbm_header(
       };
       origin = now (origin .exit);
       shared = now (shared .exit);
-    } ≡ headerTold (pictureOf (now (file .entry)) number) ⌝ }
+    } ≡ headerNumbers (pictureOf (now (file .entry)) number) ⌝ }
 {
-    let told = header_told(picture(file, number));
-    let b = told.header;
+    let numbers = header_numbers(picture(file, number));
+    let b = numbers.header;
     let left = b.x;
     let top = b.y;
     let width = b.page_width;
     let height = b.page_height;
-    *place = told.place;
+    *place = numbers.place;
     *w = b.w;
     *h = b.h;
     *x = left;
@@ -74,9 +74,9 @@ pub extern "C" fn ilbm_header(
     *y_aspect = b.y_aspect;
     *page_width = width;
     *page_height = height;
-    *origin = told.origin;
-    *shared = told.shared;
-    told.number
+    *origin = numbers.origin;
+    *shared = numbers.shared;
+    numbers.number
 }
 
 // The GRAB that counts for a picture, and its origin.
@@ -96,18 +96,18 @@ pub extern "C" fn ilbm_grab(
       grab = record { x = now (x .exit); y = now (y .exit) };
       origin = now (origin .exit);
       shared = now (shared .exit);
-    } ≡ grabTold (pictureOf (now (file .entry)) number) ⌝ }
+    } ≡ grabNumbers (pictureOf (now (file .entry)) number) ⌝ }
 {
-    let told = grab_told(picture(file, number));
-    let spot = told.grab;
+    let numbers = grab_numbers(picture(file, number));
+    let spot = numbers.grab;
     let left = spot.x;
     let top = spot.y;
-    *place = told.place;
+    *place = numbers.place;
     *x = left;
     *y = top;
-    *origin = told.origin;
-    *shared = told.shared;
-    told.number
+    *origin = numbers.origin;
+    *shared = numbers.shared;
+    numbers.number
 }
 
 // The DEST that counts for a picture, and its origin.
@@ -130,19 +130,19 @@ pub extern "C" fn ilbm_dest(
       destination = record { depth = now (depth .exit); pad1 = now (pad1 .exit); «plane_pick» = now («plane_pick» .exit); «plane_on_off» = now («plane_on_off» .exit); «plane_mask» = now («plane_mask» .exit) };
       origin = now (origin .exit);
       shared = now (shared .exit);
-    } ≡ destinationTold (pictureOf (now (file .entry)) number) ⌝ }
+    } ≡ destinationNumbers (pictureOf (now (file .entry)) number) ⌝ }
 {
-    let told = destination_told(picture(file, number));
-    let fields = told.destination;
-    *place = told.place;
+    let numbers = destination_numbers(picture(file, number));
+    let fields = numbers.destination;
+    *place = numbers.place;
     *depth = fields.depth;
     *pad1 = fields.pad1;
     *plane_pick = fields.plane_pick;
     *plane_on_off = fields.plane_on_off;
     *plane_mask = fields.plane_mask;
-    *origin = told.origin;
-    *shared = told.shared;
-    told.number
+    *origin = numbers.origin;
+    *shared = numbers.shared;
+    numbers.number
 }
 
 // The SPRT that counts for a picture, and its origin.
@@ -161,14 +161,14 @@ pub extern "C" fn ilbm_sprite(
       sprite = now (sprite .exit);
       origin = now (origin .exit);
       shared = now (shared .exit);
-    } ≡ spriteTold (pictureOf (now (file .entry)) number) ⌝ }
+    } ≡ spriteNumbers (pictureOf (now (file .entry)) number) ⌝ }
 {
-    let told = sprite_told(picture(file, number));
-    *place = told.place;
-    *sprite = told.sprite;
-    *origin = told.origin;
-    *shared = told.shared;
-    told.number
+    let numbers = sprite_numbers(picture(file, number));
+    *place = numbers.place;
+    *sprite = numbers.sprite;
+    *origin = numbers.origin;
+    *shared = numbers.shared;
+    numbers.number
 }
 
 // The CAMG that counts for a picture, and its origin.
@@ -187,12 +187,12 @@ pub extern "C" fn ilbm_view_mode(
       «view_mode» = now («view_mode» .exit);
       origin = now (origin .exit);
       shared = now (shared .exit);
-    } ≡ viewModeTold (pictureOf (now (file .entry)) number) ⌝ }
+    } ≡ viewModeNumbers (pictureOf (now (file .entry)) number) ⌝ }
 {
-    let told = view_mode_told(picture(file, number));
-    *place = told.place;
-    *view_mode = told.view_mode;
-    *origin = told.origin;
-    *shared = told.shared;
-    told.number
+    let numbers = view_mode_numbers(picture(file, number));
+    *place = numbers.place;
+    *view_mode = numbers.view_mode;
+    *origin = numbers.origin;
+    *shared = numbers.shared;
+    numbers.number
 }

@@ -4,19 +4,19 @@ use mir.Syntax.{w16}
 use mir.Val.{toZ, ofZ, SFits}
 use mir.Facts.{toZ-ofZ}
 use Rattle.ilbm_spec.specs.declared.PictureAnswer.{PictureAnswer}
-use Rattle.export_property_numbers.specs.declared.HeaderTold.{HeaderTold}
-use Rattle.export_property_numbers.specs.declared.GrabTold.{GrabTold}
-use Rattle.export_property_numbers.specs.Properties.{headerTold, grabTold}
+use Rattle.export_property_numbers.specs.declared.HeaderNumbers.{HeaderNumbers}
+use Rattle.export_property_numbers.specs.declared.GrabNumbers.{GrabNumbers}
+use Rattle.export_property_numbers.specs.Properties.{headerNumbers, grabNumbers}
 
 -- what is told of the answer of the picture call
-pub told-of : {T : Type 0} (tell : PictureAnswer → T) (v a : PictureAnswer) → v ≡ a → (t : T) → t ≡ tell v → t ≡ tell a
-told-of tell v a b t e = e ∙ ap tell b
+pub numbers-of : {T : Type 0} (tell : PictureAnswer → T) (v a : PictureAnswer) → v ≡ a → (t : T) → t ≡ tell v → t ≡ tell a
+numbers-of tell v a b t e = e ∙ ap tell b
 
 -- the signed fields are stored as bits, which give the same numbers again
 pub header-stored :
-    (v a : PictureAnswer) → v ≡ a → (t : HeaderTold) → t ≡ headerTold v → SFits w16 (t .header .x) → SFits w16 (t .header .y) →
+    (v a : PictureAnswer) → v ≡ a → (t : HeaderNumbers) → t ≡ headerNumbers v → SFits w16 (t .header .x) → SFits w16 (t .header .y) →
     SFits w16 (t .header .«page_width») → SFits w16 (t .header .«page_height») →
-    _≡_ {A = HeaderTold}
+    _≡_ {A = HeaderNumbers}
     (record {
       number = t .number;
       place = t .place;
@@ -38,12 +38,12 @@ pub header-stored :
       origin = t .origin;
       shared = t .shared;
     })
-    (headerTold a)
-header-stored v a b t e f g h i = rw (toZ-ofZ f, toZ-ofZ g, toZ-ofZ h, toZ-ofZ i) (told-of headerTold v a b t e)
+    (headerNumbers a)
+header-stored v a b t e f g h i = rw (toZ-ofZ f, toZ-ofZ g, toZ-ofZ h, toZ-ofZ i) (numbers-of headerNumbers v a b t e)
 
 pub grab-stored :
-    (v a : PictureAnswer) → v ≡ a → (t : GrabTold) → t ≡ grabTold v → SFits w16 (t .grab .x) → SFits w16 (t .grab .y) →
-    _≡_ {A = GrabTold}
+    (v a : PictureAnswer) → v ≡ a → (t : GrabNumbers) → t ≡ grabNumbers v → SFits w16 (t .grab .x) → SFits w16 (t .grab .y) →
+    _≡_ {A = GrabNumbers}
     (record {
       number = t .number;
       place = t .place;
@@ -51,5 +51,5 @@ pub grab-stored :
       origin = t .origin;
       shared = t .shared;
     })
-    (grabTold a)
-grab-stored v a b t e f g = rw (toZ-ofZ f, toZ-ofZ g) (told-of grabTold v a b t e)
+    (grabNumbers a)
+grab-stored v a b t e f g = rw (toZ-ofZ f, toZ-ofZ g) (numbers-of grabNumbers v a b t e)

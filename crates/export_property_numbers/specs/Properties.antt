@@ -6,11 +6,11 @@ use Rattle.ilbm_spec.specs.declared.Origin.the-variants.{Own, Shared, Absent}
 use Rattle.ilbm_spec.specs.declared.BitmapHeader.{BitmapHeader}
 use Rattle.ilbm_spec.specs.declared.PictureAnswer.{PictureAnswer}
 use Rattle.ilbm_spec.specs.declared.PictureAnswer.the-variants.{Shown, Refused}
-use Rattle.export_property_numbers.specs.declared.HeaderTold.{HeaderTold}
-use Rattle.export_property_numbers.specs.declared.GrabTold.{GrabTold}
-use Rattle.export_property_numbers.specs.declared.DestinationTold.{DestinationTold}
-use Rattle.export_property_numbers.specs.declared.SpriteTold.{SpriteTold}
-use Rattle.export_property_numbers.specs.declared.ViewModeTold.{ViewModeTold}
+use Rattle.export_property_numbers.specs.declared.HeaderNumbers.{HeaderNumbers}
+use Rattle.export_property_numbers.specs.declared.GrabNumbers.{GrabNumbers}
+use Rattle.export_property_numbers.specs.declared.DestinationNumbers.{DestinationNumbers}
+use Rattle.export_property_numbers.specs.declared.SpriteNumbers.{SpriteNumbers}
+use Rattle.export_property_numbers.specs.declared.ViewModeNumbers.{ViewModeNumbers}
 
 -- "Each property is told with its origin: own, shared with the place of the PROP, or absent": 1, 2 or 0, and the place, 0 unless shared
 abbrev pub originNumber : Origin → ℕ
@@ -42,27 +42,27 @@ noHeader =
       «page_height» = pos 0;
     }
 
-unfoldable pub headerTold : PictureAnswer → HeaderTold
-headerTold (Shown p) =
+unfoldable pub headerNumbers : PictureAnswer → HeaderNumbers
+headerNumbers (Shown p) =
     record { number = 0; place = 0; header = p .header; origin = originNumber (p .«header_from»); shared = sharedPlace (p .«header_from») }
-headerTold (Refused k p) = record { number = k; place = p; header = noHeader; origin = 0; shared = 0 }
+headerNumbers (Refused k p) = record { number = k; place = p; header = noHeader; origin = 0; shared = 0 }
 
-unfoldable pub grabTold : PictureAnswer → GrabTold
-grabTold (Shown p) =
+unfoldable pub grabNumbers : PictureAnswer → GrabNumbers
+grabNumbers (Shown p) =
     record { number = 0; place = 0; grab = p .grab; origin = originNumber (p .«grab_from»); shared = sharedPlace (p .«grab_from») }
-grabTold (Refused k p) = record { number = k; place = p; grab = record { x = pos 0; y = pos 0 }; origin = 0; shared = 0 }
+grabNumbers (Refused k p) = record { number = k; place = p; grab = record { x = pos 0; y = pos 0 }; origin = 0; shared = 0 }
 
-unfoldable pub destinationTold : PictureAnswer → DestinationTold
-destinationTold (Shown p) =
+unfoldable pub destinationNumbers : PictureAnswer → DestinationNumbers
+destinationNumbers (Shown p) =
     record { number = 0; place = 0; destination = p .destination; origin = originNumber (p .«destination_from»); shared = sharedPlace (p .«destination_from») }
-destinationTold (Refused k p) = record { number = k; place = p; destination = record { depth = 0; pad1 = 0; «plane_pick» = 0; «plane_on_off» = 0; «plane_mask» = 0 }; origin = 0; shared = 0 }
+destinationNumbers (Refused k p) = record { number = k; place = p; destination = record { depth = 0; pad1 = 0; «plane_pick» = 0; «plane_on_off» = 0; «plane_mask» = 0 }; origin = 0; shared = 0 }
 
-unfoldable pub spriteTold : PictureAnswer → SpriteTold
-spriteTold (Shown p) =
+unfoldable pub spriteNumbers : PictureAnswer → SpriteNumbers
+spriteNumbers (Shown p) =
     record { number = 0; place = 0; sprite = p .sprite; origin = originNumber (p .«sprite_from»); shared = sharedPlace (p .«sprite_from») }
-spriteTold (Refused k p) = record { number = k; place = p; sprite = 0; origin = 0; shared = 0 }
+spriteNumbers (Refused k p) = record { number = k; place = p; sprite = 0; origin = 0; shared = 0 }
 
-unfoldable pub viewModeTold : PictureAnswer → ViewModeTold
-viewModeTold (Shown p) =
+unfoldable pub viewModeNumbers : PictureAnswer → ViewModeNumbers
+viewModeNumbers (Shown p) =
     record { number = 0; place = 0; «view_mode» = p .«view_mode»; origin = originNumber (p .«view_mode_from»); shared = sharedPlace (p .«view_mode_from») }
-viewModeTold (Refused k p) = record { number = k; place = p; «view_mode» = 0; origin = 0; shared = 0 }
+viewModeNumbers (Refused k p) = record { number = k; place = p; «view_mode» = 0; origin = 0; shared = 0 }

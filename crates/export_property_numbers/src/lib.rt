@@ -5,7 +5,7 @@ use ilbm_spec::HotSpot;
 use ilbm_spec::Origin;
 use ilbm_spec::PictureAnswer;
 ghost use mathlib.Core.Path.{_≡_};
-ghost use Rattle.export_property_numbers.specs.Properties.{originNumber, sharedPlace, headerTold, grabTold, destinationTold, spriteTold, viewModeTold};
+ghost use Rattle.export_property_numbers.specs.Properties.{originNumber, sharedPlace, headerNumbers, grabNumbers, destinationNumbers, spriteNumbers, viewModeNumbers};
 
 pub fn origin_number(o: Origin) -> usize
     ensures { λ r. ⌜ r ≡ originNumber o ⌝ }
@@ -28,7 +28,7 @@ pub fn shared_place(o: Origin) -> usize
 }
 
 // What is told of the BMHD that counts.
-pub struct HeaderTold {
+pub struct HeaderNumbers {
     pub number: usize,
     pub place: usize,
     pub header: BitmapHeader,
@@ -36,14 +36,14 @@ pub struct HeaderTold {
     pub shared: usize,
 }
 
-pub fn header_told(v: PictureAnswer) -> HeaderTold
-    ensures { λ r. ⌜ r ≡ headerTold v ⌝ }
+pub fn header_numbers(v: PictureAnswer) -> HeaderNumbers
+    ensures { λ r. ⌜ r ≡ headerNumbers v ⌝ }
 {
     match v {
         PictureAnswer::Shown(p) => {
             let header = p.header;
             let o = p.header_from;
-            HeaderTold {
+            HeaderNumbers {
                 number: 0,
                 place: 0,
                 header,
@@ -51,7 +51,7 @@ pub fn header_told(v: PictureAnswer) -> HeaderTold
                 shared: shared_place(o),
             }
         }
-        PictureAnswer::Refused { number, place } => HeaderTold {
+        PictureAnswer::Refused { number, place } => HeaderNumbers {
             number,
             place,
             header: BitmapHeader {
@@ -76,7 +76,7 @@ pub fn header_told(v: PictureAnswer) -> HeaderTold
 }
 
 // What is told of the GRAB that counts.
-pub struct GrabTold {
+pub struct GrabNumbers {
     pub number: usize,
     pub place: usize,
     pub grab: HotSpot,
@@ -84,14 +84,14 @@ pub struct GrabTold {
     pub shared: usize,
 }
 
-pub fn grab_told(v: PictureAnswer) -> GrabTold
-    ensures { λ r. ⌜ r ≡ grabTold v ⌝ }
+pub fn grab_numbers(v: PictureAnswer) -> GrabNumbers
+    ensures { λ r. ⌜ r ≡ grabNumbers v ⌝ }
 {
     match v {
         PictureAnswer::Shown(p) => {
             let grab = p.grab;
             let o = p.grab_from;
-            GrabTold {
+            GrabNumbers {
                 number: 0,
                 place: 0,
                 grab,
@@ -99,7 +99,7 @@ pub fn grab_told(v: PictureAnswer) -> GrabTold
                 shared: shared_place(o),
             }
         }
-        PictureAnswer::Refused { number, place } => GrabTold {
+        PictureAnswer::Refused { number, place } => GrabNumbers {
             number,
             place,
             grab: HotSpot { x: 0, y: 0 },
@@ -110,7 +110,7 @@ pub fn grab_told(v: PictureAnswer) -> GrabTold
 }
 
 // What is told of the DEST that counts.
-pub struct DestinationTold {
+pub struct DestinationNumbers {
     pub number: usize,
     pub place: usize,
     pub destination: Destination,
@@ -118,14 +118,14 @@ pub struct DestinationTold {
     pub shared: usize,
 }
 
-pub fn destination_told(v: PictureAnswer) -> DestinationTold
-    ensures { λ r. ⌜ r ≡ destinationTold v ⌝ }
+pub fn destination_numbers(v: PictureAnswer) -> DestinationNumbers
+    ensures { λ r. ⌜ r ≡ destinationNumbers v ⌝ }
 {
     match v {
         PictureAnswer::Shown(p) => {
             let destination = p.destination;
             let o = p.destination_from;
-            DestinationTold {
+            DestinationNumbers {
                 number: 0,
                 place: 0,
                 destination,
@@ -133,7 +133,7 @@ pub fn destination_told(v: PictureAnswer) -> DestinationTold
                 shared: shared_place(o),
             }
         }
-        PictureAnswer::Refused { number, place } => DestinationTold {
+        PictureAnswer::Refused { number, place } => DestinationNumbers {
             number,
             place,
             destination: Destination {
@@ -150,7 +150,7 @@ pub fn destination_told(v: PictureAnswer) -> DestinationTold
 }
 
 // What is told of the SPRT that counts.
-pub struct SpriteTold {
+pub struct SpriteNumbers {
     pub number: usize,
     pub place: usize,
     pub sprite: u16,
@@ -158,14 +158,14 @@ pub struct SpriteTold {
     pub shared: usize,
 }
 
-pub fn sprite_told(v: PictureAnswer) -> SpriteTold
-    ensures { λ r. ⌜ r ≡ spriteTold v ⌝ }
+pub fn sprite_numbers(v: PictureAnswer) -> SpriteNumbers
+    ensures { λ r. ⌜ r ≡ spriteNumbers v ⌝ }
 {
     match v {
         PictureAnswer::Shown(p) => {
             let sprite = p.sprite;
             let o = p.sprite_from;
-            SpriteTold {
+            SpriteNumbers {
                 number: 0,
                 place: 0,
                 sprite,
@@ -173,7 +173,7 @@ pub fn sprite_told(v: PictureAnswer) -> SpriteTold
                 shared: shared_place(o),
             }
         }
-        PictureAnswer::Refused { number, place } => SpriteTold {
+        PictureAnswer::Refused { number, place } => SpriteNumbers {
             number,
             place,
             sprite: 0,
@@ -184,7 +184,7 @@ pub fn sprite_told(v: PictureAnswer) -> SpriteTold
 }
 
 // What is told of the CAMG that counts.
-pub struct ViewModeTold {
+pub struct ViewModeNumbers {
     pub number: usize,
     pub place: usize,
     pub view_mode: u32,
@@ -192,14 +192,14 @@ pub struct ViewModeTold {
     pub shared: usize,
 }
 
-pub fn view_mode_told(v: PictureAnswer) -> ViewModeTold
-    ensures { λ r. ⌜ r ≡ viewModeTold v ⌝ }
+pub fn view_mode_numbers(v: PictureAnswer) -> ViewModeNumbers
+    ensures { λ r. ⌜ r ≡ viewModeNumbers v ⌝ }
 {
     match v {
         PictureAnswer::Shown(p) => {
             let view_mode = p.view_mode;
             let o = p.view_mode_from;
-            ViewModeTold {
+            ViewModeNumbers {
                 number: 0,
                 place: 0,
                 view_mode,
@@ -207,7 +207,7 @@ pub fn view_mode_told(v: PictureAnswer) -> ViewModeTold
                 shared: shared_place(o),
             }
         }
-        PictureAnswer::Refused { number, place } => ViewModeTold {
+        PictureAnswer::Refused { number, place } => ViewModeNumbers {
             number,
             place,
             view_mode: 0,

@@ -3,8 +3,8 @@ use ilbm_spec::FrameAnswer;
 use ilbm_spec::LineAnswer;
 ghost use mathlib.Core.Path.{_≡_};
 ghost use lib.ListN.{length};
-ghost use Rattle.ilbm_spec.specs.Rows.{lineOf, frameOf, lineAnswer, frameAnswer, written};
-ghost use Rattle.export_rows.specs.Rows.{lineTold, frameTold};
+ghost use Rattle.ilbm_spec.specs.Rows.{lineOf, frameOf, lineAnswer, frameAnswer, bytesAfter};
+ghost use Rattle.export_rows.specs.Rows.{lineNumbers, frameNumbers};
 
 // The colour numbers of a scan line, from a place of the picture's BODY; the row has w bytes.
 #[no_mangle]
@@ -16,9 +16,9 @@ pub extern "C" fn ilbm_line(
     place: &mut usize,
     next: &mut usize,
 ) -> usize
-    ensures told { λ r. ⌜ record { number = r; place = now (place .exit); value = now (next .exit) }
-        ≡ lineTold (lineAnswer (lineOf (now (file .entry)) number start (length (now (row .entry))))) ⌝ }
-    ensures bytes { λ _. ⌜ now (row .exit) ≡ written (lineOf (now (file .entry)) number start (length (now (row .entry)))) (now (row .entry)) ⌝ }
+    ensures answer { λ r. ⌜ record { number = r; place = now (place .exit); value = now (next .exit) }
+        ≡ lineNumbers (lineAnswer (lineOf (now (file .entry)) number start (length (now (row .entry))))) ⌝ }
+    ensures bytes { λ _. ⌜ now (row .exit) ≡ bytesAfter (lineOf (now (file .entry)) number start (length (now (row .entry)))) (now (row .entry)) ⌝ }
 {
     let v = ilbm_rows::scan_line(file, number, start, row);
     match v {
@@ -47,9 +47,9 @@ pub extern "C" fn ilbm_frame(
     place: &mut usize,
     leftover: &mut usize,
 ) -> usize
-    ensures told { λ r. ⌜ record { number = r; place = now (place .exit); value = now (leftover .exit) }
-        ≡ frameTold (frameAnswer (frameOf (now (file .entry)) number (length (now (frame .entry))))) ⌝ }
-    ensures bytes { λ _. ⌜ now (frame .exit) ≡ written (frameOf (now (file .entry)) number (length (now (frame .entry)))) (now (frame .entry)) ⌝ }
+    ensures answer { λ r. ⌜ record { number = r; place = now (place .exit); value = now (leftover .exit) }
+        ≡ frameNumbers (frameAnswer (frameOf (now (file .entry)) number (length (now (frame .entry))))) ⌝ }
+    ensures bytes { λ _. ⌜ now (frame .exit) ≡ bytesAfter (frameOf (now (file .entry)) number (length (now (frame .entry)))) (now (frame .entry)) ⌝ }
 {
     let v = ilbm_rows::whole_frame(file, number, frame);
     match v {

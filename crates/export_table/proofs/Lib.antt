@@ -1,1 +1,1 @@
-pub mod TableTold
+pub mod TableNumbers

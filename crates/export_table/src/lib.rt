@@ -5,29 +5,29 @@ ghost use mathlib.Core.Path.{_≡_};
 ghost use Rattle.iff_tree.specs.Judge.{checkOf};
 ghost use Rattle.list_capacity.specs.Room.{answerOf};
 ghost use Rattle.list_column_table.specs.Table.{roomOf, Filled};
-ghost use Rattle.export_table.specs.Numbers.{recordsTold};
+ghost use Rattle.export_table.specs.Numbers.{recordsNumbers};
 
 // An answer as numbers.
-struct Told {
+struct Numbers {
     number: usize,
     place: usize,
     chunks: usize,
 }
 
-fn answer_told(v: Verdict) -> Told
-    ensures { λ r. ⌜ record { number = r .number; place = r .place; value = r .chunks } ≡ recordsTold v ⌝ }
+fn answer_numbers(v: Verdict) -> Numbers
+    ensures { λ r. ⌜ record { number = r .number; place = r .place; value = r .chunks } ≡ recordsNumbers v ⌝ }
 {
     match v {
         Verdict::Accepted {
             chunks,
             end: _,
             trailing: _,
-        } => Told {
+        } => Numbers {
             number: 0,
             place: 0,
             chunks,
         },
-        Verdict::Refused { number, place } => Told {
+        Verdict::Refused { number, place } => Numbers {
             number,
             place,
             chunks: 0,
@@ -48,16 +48,16 @@ pub extern "C" fn iff_records(
     place: &mut usize,
     chunks: &mut usize,
 ) -> usize
-    ensures told { λ r. ⌜ record { number = r; place = now (place .exit); value = now (chunks .exit) }
-        ≡ recordsTold (answerOf (roomOf (now (numbers .entry)) (now (levels .entry)) (now (kinds .entry)) (now (names .entry)) (now (places .entry)) (now (sizes .entry))) (checkOf (now (file .entry)))) ⌝ }
+    ensures answer { λ r. ⌜ record { number = r; place = now (place .exit); value = now (chunks .exit) }
+        ≡ recordsNumbers (answerOf (roomOf (now (numbers .entry)) (now (levels .entry)) (now (kinds .entry)) (now (names .entry)) (now (places .entry)) (now (sizes .entry))) (checkOf (now (file .entry)))) ⌝ }
     ensures filled { λ _. ⌜ Filled (roomOf (now (numbers .entry)) (now (levels .entry)) (now (kinds .entry)) (now (names .entry)) (now (places .entry)) (now (sizes .entry)))
         (now (file .entry))
         (answerOf (roomOf (now (numbers .entry)) (now (levels .entry)) (now (kinds .entry)) (now (names .entry)) (now (places .entry)) (now (sizes .entry))) (checkOf (now (file .entry))))
         (now (numbers .entry)) (now (levels .entry)) (now (kinds .entry)) (now (names .entry)) (now (places .entry)) (now (sizes .entry))
         (now (numbers .exit)) (now (levels .exit)) (now (kinds .exit)) (now (names .exit)) (now (places .exit)) (now (sizes .exit)) ⌝ }
 {
-    let told = answer_told(list_column_table::fill_table(file, numbers, levels, kinds, names, places, sizes));
-    *place = told.place;
-    *chunks = told.chunks;
-    told.number
+    let numbers = answer_numbers(list_column_table::fill_table(file, numbers, levels, kinds, names, places, sizes));
+    *place = numbers.place;
+    *chunks = numbers.chunks;
+    numbers.number
 }

@@ -3,9 +3,9 @@ use Prim.Native.Nat.{ℕ}
 use lib.IntN.{ℤ}
 use Rattle.ilbm_spec.specs.declared.BitmapHeader.{BitmapHeader}
 use Rattle.byterun_pack.specs.declared.PackAnswer.{PackAnswer}
-use Rattle.byterun_pack.specs.Pack.{numberOf as packNumber, lengthOf as packLength}
+use Rattle.byterun_pack.specs.Pack.{packNumber, lengthOf as packLength}
 use Rattle.write_picture.specs.declared.WriteAnswer.{WriteAnswer}
-use Rattle.write_picture.specs.Write.{numberOf, lengthOf}
+use Rattle.write_picture.specs.Write.{writeNumber, lengthOf}
 
 -- "pad1 .. 0": it is not handed over
 abbrev pub headerOf : ℕ → ℕ → ℤ → ℤ → ℕ → ℕ → ℕ → ℕ → ℕ → ℕ → ℤ → ℤ → BitmapHeader
@@ -27,12 +27,12 @@ headerOf w h x y planes masking compression transparent xAspect yAspect pageWidt
     }
 
 -- the number and the length; no refusal here has a place
-pub record SizeTold : Type 0 where
+pub record SizeNumbers : Type 0 where
   pub number : ℕ
   pub value : ℕ
 
-unfoldable pub packTold : PackAnswer → SizeTold
-packTold a = record { number = packNumber a; value = packLength a }
+unfoldable pub packNumbers : PackAnswer → SizeNumbers
+packNumbers a = record { number = packNumber a; value = packLength a }
 
-unfoldable pub writeTold : WriteAnswer → SizeTold
-writeTold a = record { number = numberOf a; value = lengthOf a }
+unfoldable pub writeNumbers : WriteAnswer → SizeNumbers
+writeNumbers a = record { number = writeNumber a; value = lengthOf a }

@@ -7,12 +7,12 @@ ghost use lib.ListN.{length};
 ghost use Rattle.byterun_pack.specs.Pack.{packOf, outAfter as packedInto};
 ghost use Rattle.write_form.specs.File.{pictureFile};
 ghost use Rattle.write_picture.specs.Write.{writeOf, outAfter};
-ghost use Rattle.export_write.specs.Writing.{headerOf, packTold, writeTold};
+ghost use Rattle.export_write.specs.Writing.{headerOf, packNumbers, writeNumbers};
 
 // Packs a row of 1 to 8,192 bytes into `out`: 31 for a row of another length, 32 if `out` is too short.
 #[no_mangle]
 pub extern "C" fn byterun_pack(row: &[u8], out: &mut [u8], size: &mut usize) -> usize
-    ensures told { λ r. ⌜ record { number = r; value = now (size .exit) } ≡ packTold (packOf (now (row .entry)) (length (now (out .entry)))) ⌝ }
+    ensures answer { λ r. ⌜ record { number = r; value = now (size .exit) } ≡ packNumbers (packOf (now (row .entry)) (length (now (out .entry)))) ⌝ }
     ensures packed { λ _. ⌜ now (out .exit) ≡ packedInto (packOf (now (row .entry)) (length (now (out .entry)))) (now (row .entry)) (now (out .entry)) ⌝ }
 {
     let v = byterun_pack::pack_row(row, out);
@@ -52,8 +52,8 @@ pub extern "C" fn ilbm_write(
     out: &mut [u8],
     size: &mut usize,
 ) -> usize
-    ensures told { λ r. ⌜ record { number = r; value = now (size .exit) }
-        ≡ writeTold (writeOf (headerOf w h x y planes masking compression transparent «x_aspect» «y_aspect» «page_width» «page_height») (now (palette .entry)) (now (frame .entry)) (length (now (out .entry)))) ⌝ }
+    ensures answer { λ r. ⌜ record { number = r; value = now (size .exit) }
+        ≡ writeNumbers (writeOf (headerOf w h x y planes masking compression transparent «x_aspect» «y_aspect» «page_width» «page_height») (now (palette .entry)) (now (frame .entry)) (length (now (out .entry)))) ⌝ }
     ensures bytes { λ _. ⌜ now (out .exit)
         ≡ outAfter (writeOf (headerOf w h x y planes masking compression transparent «x_aspect» «y_aspect» «page_width» «page_height») (now (palette .entry)) (now (frame .entry)) (length (now (out .entry))))
         (pictureFile (headerOf w h x y planes masking compression transparent «x_aspect» «y_aspect» «page_width» «page_height») (now (palette .entry)) (now (frame .entry))) (now (out .entry)) ⌝ }

@@ -9,8 +9,9 @@ use lib.Seq.{set-at}
 use borrow.Author.Tests.{eq-eqb, ne-eqb}
 use Rattle.iff_name.specs.Name.{pick}
 use Rattle.iff_chunk.specs.Chunks.{Chunks, none, leaf, group, putWord, bytes}
-use Rattle.iff_grammar.specs.Read.{length-leaf, length-group}
-use Rattle.iff_walk.specs.Order.{join, join-bytes}
+use Rattle.iff_grammar.specs.laws.Read.{length-leaf, length-group}
+use Rattle.iff_walk.specs.Order.{join}
+use Rattle.iff_walk.specs.laws.Order.{join-bytes}
 use Rattle.iff_copy.specs.Clean.{zeroPads}
 
 pub zero-join : (F K : Chunks) → zeroPads (join F K) ≡ join (zeroPads F) (zeroPads K)

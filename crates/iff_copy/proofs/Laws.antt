@@ -19,7 +19,8 @@ use Rattle.iff_rules.specs.Rules.{isGroup}
 use Rattle.iff_tree.specs.Judge.{Found, found, refused, readFile, verdictOf, checkOf}
 use Rattle.iff_grammar.specs.Words.{Bytes}
 use Rattle.iff_walk.specs.Order.{join, following}
-use Rattle.iff_walk.specs.Coming.{Coming, AtLeaf, AtGroup, coming-none, coming-room, coming-further, leaf-here, group-here, Sound, accepted-sound}
+use Rattle.iff_walk.specs.Coming.{Coming, AtLeaf, AtGroup, Sound}
+use Rattle.iff_walk.specs.laws.Coming.{coming-none, coming-room, coming-further, leaf-here, group-here, accepted-sound}
 use Rattle.iff_copy.specs.declared.Copied.the-variants.{Written, Refused}
 use Rattle.iff_copy.specs.Clean.{zeroPads, cleanBytes, copyOf, copiedInto}
 use Rattle.iff_copy.specs.Pads.{padZeroed}

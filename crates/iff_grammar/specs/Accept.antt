@@ -9,7 +9,7 @@ use Rattle.iff_chunk.specs.Chunks.{none, Chunk, before, bytes, count, nextAt}
 use Rattle.iff_tree.specs.Judge.{found, readFile, checkOf}
 use Rattle.iff_grammar.specs.Grammar.{ChunkFile}
 use Rattle.iff_grammar.specs.Words.{Bytes}
-use Rattle.iff_grammar.specs.Files.{file-complete, found-file, file-unique, file-next, file-verdict, verdict-file, file-told}
+use Rattle.iff_grammar.specs.laws.Files.{file-complete, found-file, file-unique, file-next, file-verdict, verdict-file, file-told}
 
 -- Every file of the grammar is accepted, and reading finds its tree.
 pub complete : (s : List ℕ) (c : Chunk) (R : List ℕ) → ChunkFile s c R → readFile s ≡ found c

@@ -5,7 +5,8 @@ use mathlib.Core.List.{List, [], _∷_, _++_}
 use mathlib.Core.Bool.{Bool, true, false, not}
 use lib.Dec.{eqb}
 use lib.ListN.{length}
-use Rattle.iff_name.specs.Name.{both, either, wellFormed, versionName, kindOf, JJJJ}
+use Rattle.iff_name.specs.Codes.{JJJJ}
+use Rattle.iff_name.specs.Name.{both, either, wellFormed, versionName, kindOf}
 use Rattle.iff_name.specs.declared.Kind.{Kind}
 use Rattle.iff_name.specs.declared.Kind.the-variants.{FORM, LIST, CAT, PROP, FILLER, LOCAL}
 use Rattle.iff_rules.specs.declared.Position.{Position}

@@ -1,10 +1,5 @@
 pub mod Grammar
 pub mod Words
 pub mod Read
-pub mod Names
-pub mod Props
-pub mod Headers
-pub mod Complete
-pub mod Sound
-pub mod Files
 pub mod Accept
+pub mod laws

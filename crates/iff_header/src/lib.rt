@@ -17,7 +17,7 @@ ghost use Rattle.iff_header.specs.Checks.{groupHeaderOf, sizedHeaderOf, 
 
 // A header: refused with a number, of a chunk with so much data, or of a group with its size.
 pub enum Header {
-    Bad(usize),
+    Refused(usize),
     Leaf(usize),
     Group(Kind, usize),
 }
@@ -37,19 +37,19 @@ fn group_header(
     ensures opened { λ r. ⌜ Opened levels k z r ⌝ }
 {
     if levels == 0 {
-        return Header::Bad(9);
+        return Header::Refused(9);
     }
     if z < 4 {
-        return Header::Bad(10);
+        return Header::Refused(10);
     }
     let t = name_at(s, p + 8);
     if group_type(k, t) {
         if second_prop(s, k, from, p, t, fresh) {
-            return Header::Bad(12);
+            return Header::Refused(12);
         }
         return Header::Group(k, z);
     }
-    Header::Bad(11)
+    Header::Refused(11)
 }
 
 // The checks 7 to 12, of the chunk of kind k at p, whose parent ends at e and has its members from `from` on.
@@ -69,10 +69,10 @@ fn sized_header(
     let room = e - p - 8;
     let z = size_at(s, p + 4);
     if room < z {
-        return Header::Bad(7);
+        return Header::Refused(7);
     }
     if room < (z + 1) / 2 * 2 {
-        return Header::Bad(8);
+        return Header::Refused(8);
     }
     if is_group(k) {
         return group_header(s, from, k, z, p, levels, fresh);
@@ -95,18 +95,18 @@ pub fn judge_header(
     ensures fitting { λ r. ⌜ Fitting levels (now (s .entry)) p e r ⌝ }
 {
     if e - p < 8 {
-        return Header::Bad(4);
+        return Header::Refused(4);
     }
     let n = name_at(s, p);
     if n.is_well_formed() {
         if n.is_version() {
-            return Header::Bad(3);
+            return Header::Refused(3);
         }
         let k = n.kind();
         if misplaced(w, n, k) {
-            return Header::Bad(6);
+            return Header::Refused(6);
         }
         return sized_header(s, from, k, p, e, levels, fresh);
     }
-    Header::Bad(5)
+    Header::Refused(5)
 }

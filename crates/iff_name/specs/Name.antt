@@ -5,6 +5,7 @@ use mathlib.Core.Bool.{Bool, true, false, not}
 use lib.Dec.{leb, eqb}
 use Rattle.iff_name.specs.declared.Kind.{Kind}
 use Rattle.iff_name.specs.declared.Kind.the-variants.{FORM, LIST, CAT, PROP, FILLER, LOCAL}
+use Rattle.iff_name.specs.Codes as Codes
 
 abbrev pub both : Bool → Bool → Bool
 both true b = b
@@ -54,7 +55,7 @@ wellFormed n =
 unfoldable pub versionName : ℕ → Bool
 versionName n =
     both
-    (either (eqb (n / 256) 0x464F52) (either (eqb (n / 256) 0x4C4953) (eqb (n / 256) 0x434154)))
+    (either (eqb (n / 256) Codes.FOR) (either (eqb (n / 256) Codes.LIS) (eqb (n / 256) Codes.CATS)))
     (both (leb 49 (n % 256)) (leb (n % 256) 57))
 
 abbrev pub typeByte : ℕ → Bool
@@ -67,22 +68,27 @@ typeBytes n = eachByte typeByte n
 -- the kind of a chunk that has this name; "Four spaces is the filler", "Any other well-formed name is local"
 unfoldable pub kindOf : ℕ → Kind
 kindOf n =
-    pick (eqb n 0x464F524D) FORM
-    (pick (eqb n 0x4C495354) LIST
-    (pick (eqb n 0x43415420) CAT
-    (pick (eqb n 0x50524F50) PROP
-    (pick (eqb n 0x20202020) FILLER LOCAL))))
+    pick (eqb n Codes.FORM) FORM
+    (pick (eqb n Codes.LIST) LIST
+    (pick (eqb n Codes.CAT) CAT
+    (pick (eqb n Codes.PROP) PROP
+    (pick (eqb n Codes.FILLER) FILLER LOCAL))))
 
--- JJJJ
-abbrev pub JJJJ : ℕ
-JJJJ = 0x4A4A4A4A
+-- the kinds as numbers, as a listing tells them: FORM 1, LIST 2, CAT 3, PROP 4, local 5, filler 6
+abbrev pub kindNumber : Kind → ℕ
+kindNumber FORM = 1
+kindNumber LIST = 2
+kindNumber CAT = 3
+kindNumber PROP = 4
+kindNumber LOCAL = 5
+kindNumber FILLER = 6
 
 -- FORM, LIST, "CAT ", PROP, JJJJ or all spaces
 unfoldable pub reservedName : ℕ → Bool
 reservedName n =
     either
-    (either (eqb n 0x464F524D) (either (eqb n 0x4C495354) (eqb n 0x43415420)))
-    (either (eqb n 0x50524F50) (either (eqb n JJJJ) (eqb n 0x20202020)))
+    (either (eqb n Codes.FORM) (either (eqb n Codes.LIST) (eqb n Codes.CAT)))
+    (either (eqb n Codes.PROP) (either (eqb n Codes.JJJJ) (eqb n Codes.FILLER)))
 
 -- "The type of a FORM or PROP has only A to Z, 0 to 9 and trailing spaces, isn't all spaces, and isn't FORM, LIST, PROP,
 -- "CAT ", JJJJ or a version name."

@@ -10,6 +10,7 @@ ghost use Rattle.iff_name.specs.Name.{
   reservedName,
   typeName,
   kindOf,
+  kindNumber,
 };
 
 // A name as one number, its first byte the highest. Names are compared exactly, case included.
@@ -135,5 +136,19 @@ impl Name {
             return Kind::FILLER;
         }
         Kind::LOCAL
+    }
+}
+
+// A kind as a number: FORM, LIST, CAT, PROP, LOCAL and FILLER from 1 on.
+pub fn kind_number(k: Kind) -> usize
+    ensures { λ r. ⌜ r ≡ kindNumber k ⌝ }
+{
+    match k {
+        Kind::FORM => 1,
+        Kind::LIST => 2,
+        Kind::CAT => 3,
+        Kind::PROP => 4,
+        Kind::LOCAL => 5,
+        Kind::FILLER => 6,
     }
 }

@@ -16,9 +16,10 @@ use Rattle.iff_name.specs.declared.Kind.the-variants.{FORM, LIST, CAT, PROP, FI
 use Rattle.iff_chunk.specs.Chunks.{word, nextAt}
 use Rattle.iff_rules.specs.Rules.{propBefore, secondProp}
 use Rattle.iff_type_flags.specs.Classes.{place, classOf, FreshIn}
-use Rattle.iff_type_flags.specs.Flags.{digit-below}
+use Rattle.iff_type_flags.specs.laws.Flags.{digit-below}
 use Rattle.iff_type_flags.proofs.FlagLaws.{place-next, le-or-lt, below-suc}
 use Rattle.iff_repeated_props.specs.Repeats.{Settled, Fresh}
+use Rattle.iff_name.specs.Codes as Codes
 
 -- the first n classes and the last hold no repeat before r
 abbrev pub Covered : ℕ → List ℕ → ℕ → ℕ → Type 0
@@ -28,11 +29,11 @@ fresh-lower : (c : ℕ) (s : List ℕ) (from r r' : ℕ) → r' ≤ r → FreshI
 unfolding FreshIn
 fresh-lower c s from r r' h f k l u = f k (omega arith) u
 
-prop-name : (n : ℕ) → kindOf n ≡ PROP → n ≡ 0x50524F50
+prop-name : (n : ℕ) → kindOf n ≡ PROP → n ≡ Codes.PROP
 unfolding kindOf
-prop-name n h = go (eqb n 0x464F524D) (eqb n 0x4C495354) (eqb n 0x43415420) (eqb n 0x50524F50) (eqb n 0x20202020) refl h
+prop-name n h = go (eqb n Codes.FORM) (eqb n Codes.LIST) (eqb n Codes.CAT) (eqb n Codes.PROP) (eqb n Codes.FILLER) refl h
   where
-    go : (a b c d e : Bool) → eqb n 0x50524F50 ≡ d → pick a FORM (pick b LIST (pick c CAT (pick d PROP (pick e FILLER LOCAL)))) ≡ PROP → n ≡ 0x50524F50
+    go : (a b c d e : Bool) → eqb n Codes.PROP ≡ d → pick a FORM (pick b LIST (pick c CAT (pick d PROP (pick e FILLER LOCAL)))) ≡ PROP → n ≡ Codes.PROP
     go true b c d e i h = absurd (let y : _≡_ {A = ℕ} 0 1 = cc in omega arith)
     go false true c d e i h = absurd (let y : _≡_ {A = ℕ} 0 1 = cc in omega arith)
     go false false true d e i h = absurd (let y : _≡_ {A = ℕ} 0 1 = cc in omega arith)

@@ -9,9 +9,10 @@ use native.Mathlib.Omega.{arith}
 use Rattle.iff_name.specs.Name.{both}
 use Rattle.iff_chunk.specs.Chunks.{word, nextAt}
 use Rattle.iff_rules.specs.Rules.{propAt, propWithin}
+use Rattle.iff_name.specs.Codes as Codes
 
-pub prop-at : (s : List ℕ) (p t : ℕ) {a b : ℕ} → a ≡ word s p → b ≡ word s (p + 8) → both (eqb a 0x50524F50) (eqb b t) ≡ propAt s p t
-prop-at s p t e f = λ i. both (eqb (e i) 0x50524F50) (eqb (f i) t)
+pub prop-at : (s : List ℕ) (p t : ℕ) {a b : ℕ} → a ≡ word s p → b ≡ word s (p + 8) → both (eqb a Codes.PROP) (eqb b t) ≡ propAt s p t
+prop-at s p t e f = λ i. both (eqb (e i) Codes.PROP) (eqb (f i) t)
 
 -- enough fuel brings the search from q on to v
 abbrev pub Scans : List ℕ → ℕ → ℕ → ℕ → Bool → Type 0

@@ -1,4 +1,4 @@
--- Each rule as the comparison of ranks that the code makes: by cases on the kind.
+-- Each rule as the comparison of numbers that the code makes: by cases on the kind.
 use Prim.Native.Nat.{ℕ}
 use mathlib.Core.Path.{_≡_, refl, sym, ap, _∙_}
 use mathlib.Core.Bool.{Bool, not}
@@ -6,68 +6,68 @@ use mathlib.Core.List.{[], _∷_}
 use lib.Dec.{leb, eqb}
 use types.Run.{OneOf, miss}
 use denote.Enum.Declared.{tagOf}
+use Rattle.iff_name.specs.Codes.{JJJJ}
 use Rattle.iff_name.proofs.Kind.{the-type as kind}
 use Rattle.iff_rules.proofs.Position.{the-type as position}
-use Rattle.iff_name.specs.Name.{both, either, pick, kindOf, wellFormed, typeName, JJJJ}
+use Rattle.iff_name.specs.Name.{both, either, pick, kindOf, kindNumber, wellFormed, typeName}
 use Rattle.iff_name.specs.declared.Kind.{Kind}
 use Rattle.iff_name.specs.declared.Kind.the-variants.{FORM, LIST, CAT, PROP, FILLER, LOCAL}
 use Rattle.iff_rules.specs.declared.Position.{Position}
 use Rattle.iff_rules.specs.declared.Position.the-variants.{Outermost, InForm, InProp, InList, InCat}
-use Rattle.iff_rules.specs.Rank.{rank}
 use Rattle.iff_rules.specs.Rules.{isGroup, isSection, inForm, inProp, inList, inCat, allowed, misplaced, inside, after, groupType}
 
-pub group-rank : (k : Kind) → leb (rank k) 3 ≡ isGroup k
-group-rank FORM = refl
-group-rank LIST = refl
-group-rank CAT = refl
-group-rank PROP = refl
-group-rank FILLER = refl
-group-rank LOCAL = refl
+pub group-number : (k : Kind) → leb (kindNumber k) 4 ≡ isGroup k
+group-number FORM = refl
+group-number LIST = refl
+group-number CAT = refl
+group-number PROP = refl
+group-number FILLER = refl
+group-number LOCAL = refl
 
-pub section-rank : (k : Kind) → leb (rank k) 2 ≡ isSection k
-section-rank FORM = refl
-section-rank LIST = refl
-section-rank CAT = refl
-section-rank PROP = refl
-section-rank FILLER = refl
-section-rank LOCAL = refl
+pub section-number : (k : Kind) → leb (kindNumber k) 3 ≡ isSection k
+section-number FORM = refl
+section-number LIST = refl
+section-number CAT = refl
+section-number PROP = refl
+section-number FILLER = refl
+section-number LOCAL = refl
 
-pub form-rank : (k : Kind) → not (eqb (rank k) 3) ≡ inForm k
-form-rank FORM = refl
-form-rank LIST = refl
-form-rank CAT = refl
-form-rank PROP = refl
-form-rank FILLER = refl
-form-rank LOCAL = refl
+pub form-number : (k : Kind) → not (eqb (kindNumber k) 4) ≡ inForm k
+form-number FORM = refl
+form-number LIST = refl
+form-number CAT = refl
+form-number PROP = refl
+form-number FILLER = refl
+form-number LOCAL = refl
 
-pub prop-rank : (k : Kind) → leb 4 (rank k) ≡ inProp k
-prop-rank FORM = refl
-prop-rank LIST = refl
-prop-rank CAT = refl
-prop-rank PROP = refl
-prop-rank FILLER = refl
-prop-rank LOCAL = refl
+pub prop-number : (k : Kind) → leb 5 (kindNumber k) ≡ inProp k
+prop-number FORM = refl
+prop-number LIST = refl
+prop-number CAT = refl
+prop-number PROP = refl
+prop-number FILLER = refl
+prop-number LOCAL = refl
 
-pub list-rank : (k : Kind) → leb (rank k) 4 ≡ inList k
-list-rank FORM = refl
-list-rank LIST = refl
-list-rank CAT = refl
-list-rank PROP = refl
-list-rank FILLER = refl
-list-rank LOCAL = refl
+pub list-number : (k : Kind) → not (eqb (kindNumber k) 5) ≡ inList k
+list-number FORM = refl
+list-number LIST = refl
+list-number CAT = refl
+list-number PROP = refl
+list-number FILLER = refl
+list-number LOCAL = refl
 
-pub cat-rank : (k : Kind) → both (not (eqb (rank k) 3)) (leb (rank k) 4) ≡ inCat k
-cat-rank FORM = refl
-cat-rank LIST = refl
-cat-rank CAT = refl
-cat-rank PROP = refl
-cat-rank FILLER = refl
-cat-rank LOCAL = refl
+pub cat-number : (k : Kind) → both (not (eqb (kindNumber k) 4)) (not (eqb (kindNumber k) 5)) ≡ inCat k
+cat-number FORM = refl
+cat-number LIST = refl
+cat-number CAT = refl
+cat-number PROP = refl
+cat-number FILLER = refl
+cat-number LOCAL = refl
 
--- the test f of a kind's rank n is the rule of the position v, where the chunk stands
+-- the test f of a kind's kindNumber n is the rule of the position v, where the chunk stands
 pub allowed-at :
     (f : ℕ → Bool) (k : Kind) {w v : Position} {n : ℕ} →
-    w ≡ v → n ≡ rank k → f (rank k) ≡ allowed v k → f n ≡ allowed w k
+    w ≡ v → n ≡ kindNumber k → f (kindNumber k) ≡ allowed v k → f n ≡ allowed w k
 allowed-at f k e h r = ap f h ∙ r ∙ sym (ap (λ (u : Position). allowed u k) e)
 
 pub misplaced-kind :
@@ -106,22 +106,22 @@ inside-other PROP h = absurd (miss (0 ∷ 4 ∷ 5 ∷ []) 3 tt h)
 inside-other FILLER h = refl
 inside-other LOCAL h = refl
 
-type-rank :
+type-number :
     (k : Kind) (t : ℕ) →
-    pick (either (eqb (rank k) 0) (eqb (rank k) 3)) (typeName t) (both (leb (rank k) 2) (wellFormed t)) ≡
+    pick (either (eqb (kindNumber k) 1) (eqb (kindNumber k) 4)) (typeName t) (both (leb (kindNumber k) 3) (wellFormed t)) ≡
     groupType k t
-type-rank FORM t = refl
-type-rank LIST t = refl
-type-rank CAT t = refl
-type-rank PROP t = refl
-type-rank FILLER t = refl
-type-rank LOCAL t = refl
+type-number FORM t = refl
+type-number LIST t = refl
+type-number CAT t = refl
+type-number PROP t = refl
+type-number FILLER t = refl
+type-number LOCAL t = refl
 
 pub group-type :
     (k : Kind) (t : ℕ) {n : ℕ} {b : Bool} →
-    n ≡ rank k → either (eqb n 0) (eqb n 3) ≡ b →
-    pick b (typeName t) (both (leb n 2) (wellFormed t)) ≡ groupType k t
+    n ≡ kindNumber k → either (eqb n 1) (eqb n 4) ≡ b →
+    pick b (typeName t) (both (leb n 3) (wellFormed t)) ≡ groupType k t
 group-type k t {n} e h =
-    ap (λ (x : Bool). pick x (typeName t) (both (leb n 2) (wellFormed t))) (sym h) ∙
-    ap (λ (m : ℕ). pick (either (eqb m 0) (eqb m 3)) (typeName t) (both (leb m 2) (wellFormed t))) e ∙
-    type-rank k t
+    ap (λ (x : Bool). pick x (typeName t) (both (leb n 3) (wellFormed t))) (sym h) ∙
+    ap (λ (m : ℕ). pick (either (eqb m 1) (eqb m 4)) (typeName t) (both (leb m 3) (wellFormed t))) e ∙
+    type-number k t

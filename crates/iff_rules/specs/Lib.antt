@@ -1,2 +1,1 @@
-pub mod Rank
 pub mod Rules

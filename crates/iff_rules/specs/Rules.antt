@@ -3,12 +3,14 @@ use Prim.Native.Nat.{ℕ, zero, suc, _+_, _-_}
 use mathlib.Core.List.{List}
 use mathlib.Core.Bool.{Bool, true, false, not}
 use lib.Dec.{ltb, eqb}
-use Rattle.iff_name.specs.Name.{both, either, pick, wellFormed, typeName, kindOf, JJJJ}
+use Rattle.iff_name.specs.Codes.{JJJJ}
+use Rattle.iff_name.specs.Name.{both, either, pick, wellFormed, typeName, kindOf}
 use Rattle.iff_name.specs.declared.Kind.{Kind}
 use Rattle.iff_name.specs.declared.Kind.the-variants.{FORM, LIST, CAT, PROP, FILLER, LOCAL}
 use Rattle.iff_rules.specs.declared.Position.{Position}
 use Rattle.iff_rules.specs.declared.Position.the-variants.{Outermost, InForm, InProp, InList, InCat}
 use Rattle.iff_chunk.specs.Chunks.{word, nextAt}
+use Rattle.iff_name.specs.Codes as Codes
 
 -- "FORM, LIST, CAT and PROP are groups"
 abbrev pub isGroup : Kind → Bool
@@ -113,7 +115,7 @@ groupType LOCAL t = false
 
 -- a PROP of type t stands at p
 abbrev pub propAt : List ℕ → ℕ → ℕ → Bool
-propAt s p t = both (eqb (word s p) 0x50524F50) (eqb (word s (p + 8)) t)
+propAt s p t = both (eqb (word s p) Codes.PROP) (eqb (word s (p + 8)) t)
 
 -- a PROP of type t stands among the chunks from q on and before p; `fuel` bounds their number
 unfoldable pub propWithin : ℕ → List ℕ → ℕ → ℕ → ℕ → Bool

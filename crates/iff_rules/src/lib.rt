@@ -1,6 +1,7 @@
 // The rules of what may stand where.
 use iff_name::Kind;
 use iff_name::Name;
+use iff_name::kind_number;
 ghost use mathlib.Core.Path.{_≡_};
 ghost use Rattle.iff_name.specs.Name.{kindOf};
 ghost use Rattle.iff_rules.specs.Rules.{
@@ -12,7 +13,6 @@ ghost use Rattle.iff_rules.specs.Rules.{
   after,
   groupType,
 };
-ghost use Rattle.iff_rules.specs.Rank.{rank};
 
 // Where a chunk stands: by itself, in a FORM, in a PROP, in a LIST with no FORM, LIST or CAT before it,
 // or in a CAT or the rest of a LIST.
@@ -24,42 +24,28 @@ pub enum Position {
     InCat,
 }
 
-// A kind as a number: FORM, LIST, CAT, PROP, FILLER and LOCAL from 0 on. Most rules compare it.
-fn rank(k: Kind) -> u32
-    ensures { λ r. ⌜ r ≡ rank k ⌝ }
-{
-    match k {
-        Kind::FORM => 0,
-        Kind::LIST => 1,
-        Kind::CAT => 2,
-        Kind::PROP => 3,
-        Kind::FILLER => 4,
-        Kind::LOCAL => 5,
-    }
-}
-
 pub fn is_group(k: Kind) -> bool
     ensures { λ r. ⌜ r ≡ isGroup k ⌝ }
 {
-    rank(k) <= 3
+    kind_number(k) <= 4
 }
 
 pub fn is_section(k: Kind) -> bool
     ensures { λ r. ⌜ r ≡ isSection k ⌝ }
 {
-    rank(k) <= 2
+    kind_number(k) <= 3
 }
 
 fn allowed(w: Position, k: Kind) -> bool
     ensures { λ r. ⌜ r ≡ allowed w k ⌝ }
 {
-    let n = rank(k);
+    let n = kind_number(k);
     match w {
-        Position::Outermost => n <= 2,
-        Position::InForm => n != 3,
-        Position::InProp => 4 <= n,
-        Position::InList => n <= 4,
-        Position::InCat => (n != 3) & (n <= 4),
+        Position::Outermost => n <= 3,
+        Position::InForm => n != 4,
+        Position::InProp => 5 <= n,
+        Position::InList => n != 5,
+        Position::InCat => (n != 4) & (n != 5),
     }
 }
 
@@ -99,10 +85,10 @@ pub fn after(w: Position, k: Kind) -> Position
 pub fn group_type(k: Kind, t: Name) -> bool
     ensures { λ r. ⌜ r ≡ groupType k (t .code) ⌝ }
 {
-    let n = rank(k);
-    if (n == 0) | (n == 3) {
+    let n = kind_number(k);
+    if (n == 1) | (n == 4) {
         t.is_type()
     } else {
-        (n <= 2) & t.is_well_formed()
+        (n <= 3) & t.is_well_formed()
     }
 }

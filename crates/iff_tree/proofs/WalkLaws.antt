@@ -15,17 +15,17 @@ use Rattle.iff_name.specs.declared.Kind.the-variants.{FORM, LIST, CAT, PROP, FI
 use Rattle.iff_rules.specs.declared.Position.{Position}
 use Rattle.iff_rules.specs.declared.Position.the-variants.{Outermost, InForm, InProp, InList, InCat}
 use Rattle.iff_header.specs.declared.Header.{Header}
-use Rattle.iff_header.specs.declared.Header.the-variants.{Bad, Leaf, Group}
+use Rattle.iff_header.specs.declared.Header.the-variants.{Refused as Header-refused, Leaf, Group}
 use Rattle.iff_tree.specs.declared.Step.{Step}
-use Rattle.iff_tree.specs.declared.Step.the-variants.{Next, Stop}
+use Rattle.iff_tree.specs.declared.Step.the-variants.{Next, Refused as Step-refused}
 use Rattle.iff_tree.specs.declared.Walked.{Walked}
-use Rattle.iff_tree.specs.declared.Walked.the-variants.{Whole, Broken}
+use Rattle.iff_tree.specs.declared.Walked.the-variants.{Whole, Refused as Walked-refused}
 use Rattle.iff_tree.specs.declared.Verdict.{Verdict}
 use Rattle.iff_tree.specs.declared.Verdict.the-variants.{Accepted, Refused}
 use Rattle.iff_chunk.specs.Chunks.{Chunks, none, Chunk, aLeaf, aGroup, before, count, word, nextAt}
 use Rattle.iff_rules.specs.Rules.{isGroup, isSection, inside, after}
 use Rattle.iff_header.specs.Checks.{headerOf}
-use Rattle.iff_tree.specs.Judge.{Found, found, refused, andThen, run, chunkAt, membersOf, groupOf, told, toldAll, readFile, verdictOf, checkOf}
+use Rattle.iff_tree.specs.Judge.{Found, found, refused, andThen, run, chunkAt, membersOf, groupOf, stepOf, walkedOf, readFile, verdictOf, checkOf}
 use Rattle.iff_header.specs.Checks.{LeafFits, GroupFits, Fitting}
 use Rattle.iff_tree.specs.Judge.{Ahead, Counted}
 
@@ -59,14 +59,14 @@ padded : (p z : ℕ) → p + 8 + (z + 1) / 2 * 2 ≡ p + 8 + z + z % 2
 padded p z = omega arith
 
 module _ (s : List ℕ) (w : Position) (p e from n : ℕ) (h : Header) where
-  pub member-bad : (lv k : ℕ) → h ≡ headerOf lv s from w p e → h ≡ Bad k → Stop k p ≡ told s w p n (chunkAt lv s from w p e)
+  pub member-bad : (lv k : ℕ) → h ≡ headerOf lv s from w p e → h ≡ Header-refused k → Step-refused k p ≡ stepOf s w p n (chunkAt lv s from w p e)
   unfolding chunkAt
   member-bad zero k d i = simp (← d, i)
   member-bad (suc lv) k d i = simp (← d, i)
 
   pub member-leaf :
       (lv z : ℕ) → h ≡ headerOf lv s from w p e → h ≡ Leaf z → Fitting lv s p e h →
-      Next w (n + 1) (p + 8 + (z + 1) / 2 * 2) ≡ told s w p n (chunkAt lv s from w p e)
+      Next w (n + 1) (p + 8 + (z + 1) / 2 * 2) ≡ stepOf s w p n (chunkAt lv s from w p e)
   unfolding chunkAt
   member-leaf zero z d i f =
       let g : LeafFits s p e z = rw i at f in
@@ -77,7 +77,7 @@ module _ (s : List ℕ) (w : Position) (p e from n : ℕ) (h : Header) where
 
   pub member-group :
       (lv : ℕ) (k : Kind) (z : ℕ) (r : Step) → h ≡ headerOf lv s from w p e → h ≡ Group k z → Fitting lv s p e h →
-      r ≡ told s w p n (groupOf (lv - 1) s p k z) → r ≡ told s w p n (chunkAt lv s from w p e)
+      r ≡ stepOf s w p n (groupOf (lv - 1) s p k z) → r ≡ stepOf s w p n (chunkAt lv s from w p e)
   unfolding chunkAt
   member-group zero k z r d i f R = let g : GroupFits 0 s p e k z = rw i at f in absurd (omega (arith, g .level))
   member-group (suc lv) k z r d i f R = simp (← d, i) (rw sub-one at R)
@@ -101,8 +101,8 @@ group-fits lv s p e h k z i f = rw i at f
 
 module _ (lv : ℕ) (s : List ℕ) (w : Position) (p e n : ℕ) (k : Kind) (z : ℕ) (f : GroupFits lv s p e k z) (u : Walked) where
   enter-told :
-      (F : Found Chunks) (m : ℕ) → Whole m ≡ toldAll (n + 1) F →
-      Next (after w k) m (p + 8 + (z + 1) / 2 * 2) ≡ told s w p n (andThen F (λ G. found (aGroup (word s p) (word s (p + 8)) G)))
+      (F : Found Chunks) (m : ℕ) → Whole m ≡ walkedOf (n + 1) F →
+      Next (after w k) m (p + 8 + (z + 1) / 2 * 2) ≡ stepOf s w p n (andThen F (λ G. found (aGroup (word s p) (word s (p + 8)) G)))
   enter-told (found G) m j =
       let i : m ≡ n + (1 + count G) = cc (the-sum) in
       rw (i, count-group, padded, ← f .size, f .kind)
@@ -113,20 +113,20 @@ module _ (lv : ℕ) (s : List ℕ) (w : Position) (p e n : ℕ) (k : Kind) (z : 
 
   pub enter-whole :
       (x v : Position) (m : ℕ) → x ≡ after w k → v ≡ inside k →
-      u ≡ toldAll (n + 1) (membersOf (lv - 1) s (p + 12) v (p + 12) (p + 8 + z)) → u ≡ Whole m →
-      Next x m (p + 8 + (z + 1) / 2 * 2) ≡ told s w p n (groupOf (lv - 1) s p k z)
+      u ≡ walkedOf (n + 1) (membersOf (lv - 1) s (p + 12) v (p + 12) (p + 8 + z)) → u ≡ Whole m →
+      Next x m (p + 8 + (z + 1) / 2 * 2) ≡ stepOf s w p n (groupOf (lv - 1) s p k z)
   enter-whole x v m a b i j = rw a (enter-told (membersOf (lv - 1) s (p + 12) (inside k) (p + 12) (p + 8 + z)) m (sym j ∙ (rw b at i)))
 
   enter-stop :
-      (F : Found Chunks) (a b : ℕ) → Broken a b ≡ toldAll (n + 1) F →
-      Stop a b ≡ told s w p n (andThen F (λ G. found (aGroup (word s p) (word s (p + 8)) G)))
+      (F : Found Chunks) (a b : ℕ) → Walked-refused a b ≡ walkedOf (n + 1) F →
+      Step-refused a b ≡ stepOf s w p n (andThen F (λ G. found (aGroup (word s p) (word s (p + 8)) G)))
   enter-stop (found G) a b j = absurd (let y : _≡_ {A = ℕ} 0 1 = cc in omega arith)
   enter-stop (refused c d) a b j = cc
 
   pub enter-broken :
       (v : Position) (a b : ℕ) → v ≡ inside k →
-      u ≡ toldAll (n + 1) (membersOf (lv - 1) s (p + 12) v (p + 12) (p + 8 + z)) → u ≡ Broken a b →
-      Stop a b ≡ told s w p n (groupOf (lv - 1) s p k z)
+      u ≡ walkedOf (n + 1) (membersOf (lv - 1) s (p + 12) v (p + 12) (p + 8 + z)) → u ≡ Walked-refused a b →
+      Step-refused a b ≡ stepOf s w p n (groupOf (lv - 1) s p k z)
   enter-broken v a b y i j = enter-stop (membersOf (lv - 1) s (p + 12) (inside k) (p + 12) (p + 8 + z)) a b (sym j ∙ (rw y at i))
 
   pub enter-ahead : (x : Position) (m : ℕ) → Counted (p + 8 + z) u → u ≡ Whole m → Ahead p e (Next x m (p + 8 + (z + 1) / 2 * 2))
@@ -134,21 +134,21 @@ module _ (lv : ℕ) (s : List ℕ) (w : Position) (p e n : ℕ) (k : Kind) (z : 
 
 -- enough fuel brings the members from p to e, after n chunks, to v
 abbrev pub Runs : (Position → ℕ → ℕ → Found Chunk) → List ℕ → Position → ℕ → ℕ → ℕ → Walked → Type 0
-Runs chunk s w p e n v = (fuel : ℕ) × ((e - p ≤ fuel) × (toldAll n (run chunk s fuel w p e) ≡ v))
+Runs chunk s w p e n v = (fuel : ℕ) × ((e - p ≤ fuel) × (walkedOf n (run chunk s fuel w p e) ≡ v))
 
-module _ (chunk : Position → ℕ → ℕ → Found Chunk) (s : List ℕ) (w : Position) (p e n : ℕ) (v : Walked) (h : p < e) (r : Step) (d : r ≡ told s w p n (chunk w p e)) where
+module _ (chunk : Position → ℕ → ℕ → Found Chunk) (s : List ℕ) (w : Position) (p e n : ℕ) (v : Walked) (h : p < e) (r : Step) (d : r ≡ stepOf s w p n (chunk w p e)) where
   more-all :
       (c : Chunk) (F : Found Chunks) (m : ℕ) → m ≡ n + count (before c none) →
-      toldAll n (andThen F (λ G. found (before c G))) ≡ v → toldAll m F ≡ v
+      walkedOf n (andThen F (λ G. found (before c G))) ≡ v → walkedOf m F ≡ v
   more-all c (found F) m i u =
       let j : n + count (before c F) ≡ m + count F = omega (arith, count-before c F) in
       sym (ap Whole j) ∙ u
   more-all c (refused a b) m i u = u
 
   more-one :
-      (fuel : ℕ) (f : Found Chunk) (x : Position) (m q : ℕ) → Next x m q ≡ told s w p n f →
-      toldAll n (andThen f (λ c. andThen (run chunk s fuel (after w (kindOf (word s p))) (nextAt s p) e) (λ F. found (before c F)))) ≡ v →
-      toldAll m (run chunk s fuel x q e) ≡ v
+      (fuel : ℕ) (f : Found Chunk) (x : Position) (m q : ℕ) → Next x m q ≡ stepOf s w p n f →
+      walkedOf n (andThen f (λ c. andThen (run chunk s fuel (after w (kindOf (word s p))) (nextAt s p) e) (λ F. found (before c F)))) ≡ v →
+      walkedOf m (run chunk s fuel x q e) ≡ v
   more-one fuel (found c) x m q i u =
       let a : x ≡ after w (kindOf (word s p)) = cc in
       let b : q ≡ nextAt s p = cc in
@@ -162,13 +162,13 @@ module _ (chunk : Position → ℕ → ℕ → Found Chunk) (s : List ℕ) (w : 
   runs-more x m q a i (suc k, (f, u)) = (k, (omega arith, more-one k (chunk w p e) x m q (sym i ∙ d) (rw (lt-ltb p e h) at u)))
 
   stop-one :
-      (fuel : ℕ) (f : Found Chunk) (a b : ℕ) → Stop a b ≡ told s w p n f →
-      toldAll n (andThen f (λ c. andThen (run chunk s fuel (after w (kindOf (word s p))) (nextAt s p) e) (λ F. found (before c F)))) ≡ v →
-      Broken a b ≡ v
+      (fuel : ℕ) (f : Found Chunk) (a b : ℕ) → Step-refused a b ≡ stepOf s w p n f →
+      walkedOf n (andThen f (λ c. andThen (run chunk s fuel (after w (kindOf (word s p))) (nextAt s p) e) (λ F. found (before c F)))) ≡ v →
+      Walked-refused a b ≡ v
   stop-one fuel (found c) a b i u = absurd (let y : _≡_ {A = ℕ} 0 1 = cc in omega arith)
   stop-one fuel (refused k x) a b i u = cc
 
-  pub runs-stop : (a b : ℕ) → r ≡ Stop a b → Runs chunk s w p e n v → Broken a b ≡ v
+  pub runs-stop : (a b : ℕ) → r ≡ Step-refused a b → Runs chunk s w p e n v → Walked-refused a b ≡ v
   unfolding run
   runs-stop a b i (zero, (f, u)) = absurd (omega arith)
   runs-stop a b i (suc k, (f, u)) = stop-one k (chunk w p e) a b (sym i ∙ d) (rw (lt-ltb p e h) at u)
@@ -195,7 +195,7 @@ module _ (p e : ℕ) (r : Step) (x : Position) (m q : ℕ) (k : Ahead p e r) (i 
 pub ruleset walk-laws = (member-bad, member-leaf, member-group, leaf-ahead, leaf-one-more, leaf-padded, leaf-next, group-fits, enter-whole, enter-broken, enter-ahead, runs-more, runs-stop, runs-end, ahead-end, ahead-count, ahead-start, ahead-less)
 
 -- the whole file
-told-verdict : (s : List ℕ) (f : Found Chunk) (x : Position) (m q : ℕ) → Next x m q ≡ told s Outermost 0 0 f → Accepted m q (length s - q) ≡ verdictOf s f
+told-verdict : (s : List ℕ) (f : Found Chunk) (x : Position) (m q : ℕ) → Next x m q ≡ stepOf s Outermost 0 0 f → Accepted m q (length s - q) ≡ verdictOf s f
 told-verdict s (found c) x m q i =
     let a : m ≡ 0 + count (before c none) = cc in
     let b : m ≡ count (before c none) = omega arith in
@@ -203,15 +203,15 @@ told-verdict s (found c) x m q i =
     cc
 told-verdict s (refused k p) x m q i = absurd (let y : _≡_ {A = ℕ} 0 1 = cc in omega arith)
 
-stop-verdict : (s : List ℕ) (f : Found Chunk) (a b : ℕ) → Stop a b ≡ told s Outermost 0 0 f → Refused a b ≡ verdictOf s f
+stop-verdict : (s : List ℕ) (f : Found Chunk) (a b : ℕ) → Step-refused a b ≡ stepOf s Outermost 0 0 f → Refused a b ≡ verdictOf s f
 stop-verdict s (found c) a b i = absurd (let y : _≡_ {A = ℕ} 0 1 = cc in omega arith)
 stop-verdict s (refused k p) a b i = cc
 
-module _ (s : List ℕ) (f : Found Chunk) (r : Step) (d : r ≡ told s Outermost 0 0 f) where
+module _ (s : List ℕ) (f : Found Chunk) (r : Step) (d : r ≡ stepOf s Outermost 0 0 f) where
   pub file-accepted : (x : Position) (m q : ℕ) → r ≡ Next x m q → Accepted m q (length s - q) ≡ verdictOf s f
   file-accepted x m q i = told-verdict s f x m q (sym i ∙ d)
 
-  pub file-refused : (a b : ℕ) → r ≡ Stop a b → Refused a b ≡ verdictOf s f
+  pub file-refused : (a b : ℕ) → r ≡ Step-refused a b → Refused a b ≡ verdictOf s f
   file-refused a b i = stop-verdict s f a b (sym i ∙ d)
 
 module _ (s : List ℕ) where

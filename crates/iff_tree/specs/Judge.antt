@@ -9,11 +9,11 @@ use Rattle.iff_name.specs.declared.Kind.{Kind}
 use Rattle.iff_rules.specs.declared.Position.{Position}
 use Rattle.iff_rules.specs.declared.Position.the-variants.{Outermost}
 use Rattle.iff_header.specs.declared.Header.{Header}
-use Rattle.iff_header.specs.declared.Header.the-variants.{Bad, Leaf, Group}
+use Rattle.iff_header.specs.declared.Header.the-variants.{Refused as Header-refused, Leaf, Group}
 use Rattle.iff_tree.specs.declared.Step.{Step}
-use Rattle.iff_tree.specs.declared.Step.the-variants.{Next, Stop}
+use Rattle.iff_tree.specs.declared.Step.the-variants.{Next, Refused as Step-refused}
 use Rattle.iff_tree.specs.declared.Walked.{Walked}
-use Rattle.iff_tree.specs.declared.Walked.the-variants.{Whole, Broken}
+use Rattle.iff_tree.specs.declared.Walked.the-variants.{Whole, Refused as Walked-refused}
 use Rattle.iff_tree.specs.declared.Verdict.{Verdict}
 use Rattle.iff_tree.specs.declared.Verdict.the-variants.{Accepted, Refused}
 use Rattle.iff_chunk.specs.Chunks.{Chunks, none, Chunk, aLeaf, aGroup, before, count, word, nextAt}
@@ -39,7 +39,7 @@ run chunk s (suc fuel) w p e =
 
 -- The chunk whose header at p is h, where `members` finds the members of a group.
 abbrev pub byHeader : Header → List ℕ → ℕ → (Kind → ℕ → Found Chunks) → Found Chunk
-byHeader (Bad k) s p members = refused k p
+byHeader (Header-refused k) s p members = refused k p
 byHeader (Leaf z) s p members = found (aLeaf (word s p) (slice (p + 8) (p + 8 + z) s) (slice (p + 8 + z) (p + 8 + z + z % 2) s))
 byHeader (Group k z) s p members = andThen (members k z) (λ G. found (aGroup (word s p) (word s (p + 8)) G))
 
@@ -73,23 +73,23 @@ abbrev pub checkOf : List ℕ → Verdict
 checkOf s = verdictOf s (readFile s)
 
 -- What the walk over the bytes tells of a chunk at p, after n chunks: where the next one stands, how many chunks there are by then.
-abbrev pub told : List ℕ → Position → ℕ → ℕ → Found Chunk → Step
-told s w p n (found c) = Next (after w (kindOf (word s p))) (n + count (before c none)) (nextAt s p)
-told s w p n (refused k q) = Stop k q
+abbrev pub stepOf : List ℕ → Position → ℕ → ℕ → Found Chunk → Step
+stepOf s w p n (found c) = Next (after w (kindOf (word s p))) (n + count (before c none)) (nextAt s p)
+stepOf s w p n (refused k q) = Step-refused k q
 
 -- The same of all members of a group.
-abbrev pub toldAll : ℕ → Found Chunks → Walked
-toldAll n (found F) = Whole (n + count F)
-toldAll n (refused k q) = Broken k q
+abbrev pub walkedOf : ℕ → Found Chunks → Walked
+walkedOf n (found F) = Whole (n + count F)
+walkedOf n (refused k q) = Walked-refused k q
 
 -- A chunk ends after it begins, inside its parent, and there are no more chunks than bytes.
 abbrev pub Ahead : ℕ → ℕ → Step → Type 0
 Ahead p e (Next w n q) = (p < q) × (q ≤ e) × (n ≤ q)
-Ahead p e (Stop k m) = Unit
+Ahead p e (Step-refused k m) = Unit
 
 abbrev pub Counted : ℕ → Walked → Type 0
 Counted e (Whole n) = n ≤ e
-Counted e (Broken k m) = Unit
+Counted e (Walked-refused k m) = Unit
 
 -- The group of kind k and size z at p, where `levels` more levels may be opened inside it.
 abbrev pub groupOf : ℕ → List ℕ → ℕ → Kind → ℕ → Found Chunk

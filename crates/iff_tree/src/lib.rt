@@ -18,8 +18,8 @@ ghost use Rattle.iff_tree.specs.Judge.{
   chunkAt,
   membersOf,
   checkOf,
-  told,
-  toldAll,
+  stepOf,
+  walkedOf,
   groupOf,
   verdictOf,
   Ahead,
@@ -42,13 +42,13 @@ pub enum Verdict {
 // After a chunk: the next one's position, the chunks so far and the next place; or a refusal.
 pub enum Step {
     Next(Position, usize, usize),
-    Stop(usize, usize),
+    Refused(usize, usize),
 }
 
 // After a group's members: the chunks so far; or a refusal.
 pub enum Walked {
     Whole(usize),
-    Broken(usize, usize),
+    Refused(usize, usize),
 }
 
 // The chunk at p, after n chunks.
@@ -63,12 +63,12 @@ fn member(
     fresh: usize,
 ) -> Step
     requires { ⌜ (p ≤ e) × (e ≤ length (now s)) × (n ≤ p) × Settled (now s) from p fresh ⌝ }
-    ensures is { λ r. ⌜ r ≡ told (now (s .entry)) w p n (chunkAt levels (now (s .entry)) from w p e) ⌝ }
+    ensures is { λ r. ⌜ r ≡ stepOf (now (s .entry)) w p n (chunkAt levels (now (s .entry)) from w p e) ⌝ }
     ensures ahead { λ r. ⌜ Ahead p e r ⌝ }
 {
     let h = judge_header(s, from, w, p, e, levels, fresh);
     match h {
-        Header::Bad(number) => Step::Stop(number, p),
+        Header::Refused(number) => Step::Refused(number, p),
         Header::Leaf(z) => Step::Next(w, n + 1, p + 8 + (z + 1) / 2 * 2),
         Header::Group(k, z) => enter(s, w, k, z, p, e, levels, n),
     }
@@ -86,20 +86,20 @@ fn enter(
     n: usize,
 ) -> Step
     requires { ⌜ (GroupFits levels (now s) p e k z) × (e ≤ length (now s)) × (n ≤ p) ⌝ }
-    ensures is { λ r. ⌜ r ≡ told (now (s .entry)) w p n (groupOf (levels - 1) (now (s .entry)) p k z) ⌝ }
+    ensures is { λ r. ⌜ r ≡ stepOf (now (s .entry)) w p n (groupOf (levels - 1) (now (s .entry)) p k z) ⌝ }
     ensures ahead { λ r. ⌜ Ahead p e r ⌝ }
 {
     let inner = group(s, inside(k), p + 12, p + 8 + z, levels - 1, n + 1);
     match inner {
         Walked::Whole(count) => Step::Next(after(w, k), count, p + 8 + (z + 1) / 2 * 2),
-        Walked::Broken(number, place) => Step::Stop(number, place),
+        Walked::Refused(number, place) => Step::Refused(number, place),
     }
 }
 
 // The members of a group, from `from` to e, after n chunks.
 fn group(s: &[u8], w: Position, from: usize, e: usize, levels: usize, n: usize) -> Walked
     requires { ⌜ (from ≤ e) × (e ≤ length (now s)) × (n ≤ from) ⌝ }
-    ensures is { λ r. ⌜ r ≡ toldAll n (membersOf levels (now (s .entry)) from w from e) ⌝ }
+    ensures is { λ r. ⌜ r ≡ walkedOf n (membersOf levels (now (s .entry)) from w from e) ⌝ }
     ensures counted { λ r. ⌜ Counted e r ⌝ }
 {
     let fresh = fresh_in_group(s, w, from, e);
@@ -114,8 +114,8 @@ fn group(s: &[u8], w: Position, from: usize, e: usize, levels: usize, n: usize) 
                 count = so_far;
                 p = q;
             }
-            Step::Stop(number, place) => {
-                return Walked::Broken(number, place);
+            Step::Refused(number, place) => {
+                return Walked::Refused(number, place);
             }
         }
     }
@@ -132,7 +132,7 @@ fn outermost(s: &[u8]) -> Verdict
             end,
             trailing: s.len() - end,
         },
-        Step::Stop(number, place) => Verdict::Refused { number, place },
+        Step::Refused(number, place) => Verdict::Refused { number, place },
     }
 }
 

@@ -14,6 +14,7 @@ use Rattle.iff_name.specs.Name.{both, pick}
 use Rattle.iff_chunk.specs.Chunks.{word, nextAt}
 use Rattle.iff_rules.specs.Rules.{propAt, propWithin, propBefore}
 use Rattle.iff_type_flags.specs.Classes.{place, digitOf, classOf, slotOf, inClass, FreshIn, Marked}
+use Rattle.iff_name.specs.Codes as Codes
 
 -- places
 
@@ -69,14 +70,14 @@ both-right true b e = e
 both-right false b e = absurd (let y : _≡_ {A = ℕ} 0 1 = cc in omega arith)
 
 same-type : (s : List ℕ) (p t : ℕ) → propAt s p t ≡ true → word s (p + 8) ≡ t
-same-type s p t e = eqb-true _ _ (both-right (eqb (word s p) 0x50524F50) (eqb (word s (p + 8)) t) e)
+same-type s p t e = eqb-true _ _ (both-right (eqb (word s p) Codes.PROP) (eqb (word s (p + 8)) t) e)
 
 -- two PROPs of one type: if one is of class c, so is the other
 same-class : (c : ℕ) (s : List ℕ) (p q : ℕ) → inClass c s q ≡ true → propAt s p (word s (q + 8)) ≡ true → inClass c s p ≡ true
 same-class c s p q i e =
-    let a : eqb (word s p) 0x50524F50 ≡ true = both-left (eqb (word s p) 0x50524F50) (eqb (word s (p + 8)) (word s (q + 8))) e in
+    let a : eqb (word s p) Codes.PROP ≡ true = both-left (eqb (word s p) Codes.PROP) (eqb (word s (p + 8)) (word s (q + 8))) e in
     let b : word s (p + 8) ≡ word s (q + 8) = same-type s p (word s (q + 8)) e in
-    let d : eqb (classOf (word s (q + 8))) c ≡ true = both-right (eqb (word s q) 0x50524F50) (eqb (classOf (word s (q + 8))) c) i in
+    let d : eqb (classOf (word s (q + 8))) c ≡ true = both-right (eqb (word s q) Codes.PROP) (eqb (classOf (word s (q + 8))) c) i in
     rw (a, b) d
 
 pub le-or-lt : (a b : ℕ) → (a ≤ b) ⊎ (b < a)
@@ -200,10 +201,10 @@ unfolding slotOf
 slot-of t b c d i j k = rw (← i, ← j, ← k)
 
 module _ (s : List ℕ) (p class a : ℕ) (e : a ≡ word s p) where
-  pub class-at : (t d : ℕ) → a ≡ 0x50524F50 → t ≡ word s (p + 8) → d ≡ classOf t → eqb d class ≡ inClass class s p
+  pub class-at : (t d : ℕ) → a ≡ Codes.PROP → t ≡ word s (p + 8) → d ≡ classOf t → eqb d class ≡ inClass class s p
   class-at t d i f g = simp (← e, eq-eqb _ _ i, ← f, ← g)
 
-  pub class-none : (a ≡ 0x50524F50 → ⊥) → false ≡ inClass class s p
+  pub class-none : (a ≡ Codes.PROP → ⊥) → false ≡ inClass class s p
   class-none i = simp (← e, ne-eqb _ _ i)
 
 module _ (s : List ℕ) (p class : ℕ) (b : Bool) (e : b ≡ inClass class s p) (flags : List ℕ) where

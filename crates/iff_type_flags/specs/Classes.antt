@@ -9,6 +9,7 @@ use lib.ListN.{length, getD}
 use Rattle.iff_name.specs.Name.{both, pick, byte0, byte1, byte2, byte3}
 use Rattle.iff_chunk.specs.Chunks.{word, nextAt}
 use Rattle.iff_rules.specs.Rules.{propBefore}
+use Rattle.iff_name.specs.Codes as Codes
 
 -- the place of the chunk after k others, the first of which stands at `from`
 unfoldable pub place : List ℕ → ℕ → ℕ → ℕ
@@ -31,7 +32,7 @@ slotOf t = digitOf (byte1 t) % 19 * 1444 + digitOf (byte2 t) * 38 + digitOf (byt
 
 -- a PROP whose type is of class c stands at p
 abbrev pub inClass : ℕ → List ℕ → ℕ → Bool
-inClass c s p = both (eqb (word s p) 0x50524F50) (eqb (classOf (word s (p + 8))) c)
+inClass c s p = both (eqb (word s p) Codes.PROP) (eqb (classOf (word s (p + 8))) c)
 
 -- each PROP of class c among the chunks from `from` on, if it stands before r, is the first of its type
 unfoldable pub FreshIn : ℕ → List ℕ → ℕ → ℕ → Type 0

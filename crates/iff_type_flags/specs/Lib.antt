@@ -1,2 +1,2 @@
 pub mod Classes
-pub mod Flags
+pub mod laws

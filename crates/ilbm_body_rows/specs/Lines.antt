@@ -6,17 +6,18 @@ use lib.ListN.{length}
 use Rattle.ilbm_spec.specs.declared.LineAnswer.{LineAnswer}
 use Rattle.ilbm_spec.specs.declared.FrameAnswer.{FrameAnswer}
 use Rattle.ilbm_spec.specs.Contents.{Content}
-use Rattle.ilbm_spec.specs.Pictures.{viewed}
-use Rattle.ilbm_spec.specs.Rows.{lineRead, frameRead, lineAnswer, frameAnswer, written}
+
+use Rattle.ilbm_spec.specs.Rows.{lineRead, frameRead, lineAnswer, frameAnswer, bytesAfter}
 use Rattle.ilbm_content.specs.declared.Contents.{Contents}
+use Rattle.iff_tree.specs.Judge.{found}
 use Rattle.ilbm_content.specs.Held.{ContentsAre}
 
 -- the answer, and what stands in the row afterwards
 pub record LineDone (s : List ℕ) (c : Contents) (start : ℕ) (old : List ℕ) (r : LineAnswer) (new : List ℕ) : Type 0 where
-  pub told : (x : Content) → ContentsAre s c x → r ≡ lineAnswer (lineRead (viewed x) start (length old))
-  pub row : (x : Content) → ContentsAre s c x → new ≡ written (lineRead (viewed x) start (length old)) old
+  pub answer : (x : Content) → ContentsAre s c x → r ≡ lineAnswer (lineRead (found x) start (length old))
+  pub row : (x : Content) → ContentsAre s c x → new ≡ bytesAfter (lineRead (found x) start (length old)) old
 
 -- the answer, and what stands in the frame afterwards
 pub record FrameDone (s : List ℕ) (c : Contents) (old : List ℕ) (r : FrameAnswer) (new : List ℕ) : Type 0 where
-  pub told : (x : Content) → ContentsAre s c x → r ≡ frameAnswer (frameRead (viewed x) (length old))
-  pub frame : (x : Content) → ContentsAre s c x → new ≡ written (frameRead (viewed x) (length old)) old
+  pub answer : (x : Content) → ContentsAre s c x → r ≡ frameAnswer (frameRead (found x) (length old))
+  pub frame : (x : Content) → ContentsAre s c x → new ≡ bytesAfter (frameRead (found x) (length old)) old

@@ -9,7 +9,7 @@ use ilbm_scan_line::scan_row;
 ghost use mathlib.Core.Path.{_≡_};
 ghost use Prim.Native.Nat.{_-_};
 ghost use Rattle.ilbm_members.specs.declared.Part.the-variants.{Between};
-ghost use Rattle.ilbm_properties.specs.Told.{Judged};
+ghost use Rattle.ilbm_properties.specs.Fields.{Judged};
 ghost use Rattle.ilbm_body_rows.specs.Lines.{LineDone, FrameDone};
 
 // A scan line of a picture whose BODY lies from a to b.
@@ -44,7 +44,7 @@ pub fn body_line(
     let scanned = scan_row(&s[a..b], start, w, planes, masked, header.compression, row);
     match scanned {
         Scanned::Next(next) => LineAnswer::Next(next),
-        Scanned::Fault { number, place } => LineAnswer::Refused { number, place },
+        Scanned::Refused { number, place } => LineAnswer::Refused { number, place },
     }
 }
 
@@ -75,6 +75,6 @@ pub fn body_frame(s: &[u8], c: Contents, a: usize, b: usize, frame: &mut [u8]) -
     let scanned = scan_frame(&s[a..b], w, h, planes, masked, header.compression, frame);
     match scanned {
         Scanned::Next(end) => FrameAnswer::Leftover(left_over(b - a, end)),
-        Scanned::Fault { number, place } => FrameAnswer::Refused { number, place },
+        Scanned::Refused { number, place } => FrameAnswer::Refused { number, place },
     }
 }

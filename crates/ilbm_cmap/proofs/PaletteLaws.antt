@@ -6,7 +6,7 @@ use lib.ListN.{length, take, drop}
 use native.Mathlib.Omega.{arith}
 use Rattle.ilbm_spec.specs.Contents.{Property, own, shared, absent}
 use Rattle.ilbm_spec.specs.Places.{placeOf}
-use Rattle.ilbm_spec.specs.Pictures.{unseen, viewOf, paletteFrom}
+use Rattle.ilbm_spec.specs.Pictures.{viewOf, paletteFrom}
 use Rattle.ilbm_spec.specs.Palette.{sourceFrom, pointer}
 use Rattle.ilbm_members.specs.Members.{fromOf}
 use Rattle.ilbm_members.specs.declared.Part.{Part}
@@ -15,9 +15,10 @@ use Rattle.ilbm_content.specs.declared.Held.{Held}
 use Rattle.ilbm_content.specs.declared.Contents.{Contents}
 use Rattle.ilbm_content.specs.Held.{HeldIs}
 use Rattle.ilbm_find.specs.declared.View.{View}
-use Rattle.ilbm_find.specs.declared.View.the-variants.{Seen, Unseen}
+use Rattle.ilbm_find.specs.declared.View.the-variants.{Seen, Refused as View-refused}
 use Rattle.ilbm_find.specs.Seen.{ViewIs, Begins, Placed}
-use Rattle.ilbm_faults.proofs.FaultLaws.{held-data, data-taken}
+use Rattle.ilbm_refusals.proofs.RefusalLaws.{held-data, data-taken}
+use Rattle.iff_tree.specs.Judge.{refused}
 use Rattle.ilbm_cmap.specs.Parts.{PartIn, partOr, partAt, ColoursAre}
 
 -- the part of a property, or the default: its bytes, where it begins, and that it lies inside
@@ -69,7 +70,7 @@ module _ (s : List ℕ) (i : ℕ) (v : View) (w : ViewIs s v (viewOf s i)) where
         inside = part-in s (c .cmap) (x .cmap) (c .cmap .part) (k .cmap) refl;
       }
 
-  pub colours-unseen : (k p : ℕ) → v ≡ Unseen k p → ColoursAre s i (record { number = k; place = p; part = Between 0 0 })
+  pub colours-unseen : (k p : ℕ) → v ≡ View-refused k p → ColoursAre s i (record { number = k; place = p; part = Between 0 0 })
   colours-unseen k p j =
-      let e : viewOf s i ≡ unseen k p = rw j at w in
+      let e : viewOf s i ≡ refused k p = rw j at w in
       record { told = λ default. rw e; lies = λ file default. rw e; inside = (omega arith, omega arith) }

@@ -35,7 +35,7 @@ pub fn colours_of(s: &[u8], i: usize) -> Colours
                 part,
             }
         }
-        View::Unseen(number, place) => Colours {
+        View::Refused(number, place) => Colours {
             number,
             place,
             part: Part::Between(0, 0),

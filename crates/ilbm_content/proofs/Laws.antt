@@ -14,7 +14,8 @@ use Rattle.iff_chunk.specs.Chunks.{Chunks, none, leaf, group, bytes, word}
 use Rattle.iff_rules.specs.Rules.{isGroup}
 use Rattle.iff_grammar.specs.Read.{Regular}
 use Rattle.ilbm_spec.specs.declared.Origin.the-variants.{Own, Shared, Absent}
-use Rattle.ilbm_spec.specs.Contents.{BODY, BMHD, CMAP, GRAB, DEST, SPRT, CAMG, lastOwn, lastShared, SharedProp, sharedBy, propertyOf}
+use Rattle.ilbm_spec.specs.Names.{BODY, BMHD, CMAP, GRAB, DEST, SPRT, CAMG}
+use Rattle.ilbm_spec.specs.Contents.{lastOwn, lastShared, SharedProp, sharedBy, propertyOf}
 use Rattle.ilbm_spec.specs.Places.{lastOwnAt, lastSharedAt, orZero, sharedAt, propertyAt}
 use Rattle.ilbm_members.specs.declared.Part.{Part}
 use Rattle.ilbm_members.specs.declared.Part.the-variants.{Nothing, Between}

@@ -6,7 +6,8 @@ use mathlib.Core.Option.{some}
 use lib.ListN.{length}
 use Rattle.iff_chunk.specs.Chunks.{Chunks}
 use Rattle.ilbm_spec.specs.declared.Origin.the-variants.{Own, Shared, Absent}
-use Rattle.ilbm_spec.specs.Contents.{BMHD, CMAP, GRAB, DEST, SPRT, CAMG, SharedProp, Property, own, shared, absent, sharedBy, propertyOf, Content, contentOf}
+use Rattle.ilbm_spec.specs.Names.{BMHD, CMAP, GRAB, DEST, SPRT, CAMG}
+use Rattle.ilbm_spec.specs.Contents.{SharedProp, Property, own, shared, absent, sharedBy, propertyOf, Content, contentOf}
 use Rattle.ilbm_spec.specs.Places.{sharedAt, propertyAt}
 use Rattle.ilbm_members.specs.declared.Part.the-variants.{Nothing}
 use Rattle.ilbm_members.specs.Members.{Holds, Shows, fromOf, firstOf}

@@ -17,8 +17,11 @@ use Rattle.iff_tree.specs.Judge.{Found, found, refused, readFile, verdictOf, ch
 use Rattle.iff_tree.specs.declared.Verdict.{Verdict}
 use Rattle.iff_tree.specs.declared.Verdict.the-variants.{Refused as Verdict-refused}
 use Rattle.iff_walk.specs.Order.{join, later, following}
-use Rattle.iff_walk.specs.Coming.{Coming, Sound, coming-none, coming-room, coming-later, coming-further, leaf-here, group-here}
-use Rattle.ilbm_spec.specs.Contents.{FORM, ILBM, SharedProp, contentsFrom, contentsOf}
+use Rattle.iff_walk.specs.Coming.{Coming, Sound}
+use Rattle.iff_walk.specs.laws.Coming.{coming-none, coming-room, coming-later, coming-further, leaf-here, group-here}
+use Rattle.iff_name.specs.Codes.{FORM}
+use Rattle.ilbm_spec.specs.Names.{ILBM, isPicture}
+use Rattle.ilbm_spec.specs.Contents.{SharedProp, contentsFrom, contentsOf}
 use Rattle.ilbm_count.specs.declared.Counted.the-variants.{Pictures, Refused}
 use Rattle.ilbm_count.specs.Count.{countIn, countOf, formAt, Standing}
 
@@ -26,7 +29,7 @@ use Rattle.ilbm_count.specs.Count.{countIn, countOf, formAt, Standing}
 unfoldable pub forms : Chunks → ℕ
 forms none = 0
 forms (leaf n d p F) = forms F
-forms (group n t G F) = pick (both (eqb n FORM) (eqb t ILBM)) 1 0 + (forms G + forms F)
+forms (group n t G F) = pick (isPicture n t) 1 0 + (forms G + forms F)
 
 one-or-none : {A : Type 0} (b : Bool) (x : A) (rest : List A) → length (pick b (x ∷ []) [] ++ rest) ≡ pick b 1 0 + length rest
 one-or-none true x rest = omega arith
@@ -37,7 +40,7 @@ unfolding contentsFrom forms
 contents-forms p scope none = refl
 contents-forms p scope (leaf n d pd F) = contents-forms _ scope F
 contents-forms p scope (group n t G F) =
-    one-or-none (both (eqb n FORM) (eqb t ILBM)) _ _ ∙ rw (length-append, contents-forms _ _ G, contents-forms _ _ F)
+    one-or-none (isPicture n t) _ _ ∙ rw (length-append, contents-forms _ _ G, contents-forms _ _ F)
 
 join-forms : (F K : Chunks) → forms (join F K) ≡ forms F + forms K
 unfolding forms join
@@ -71,7 +74,7 @@ pub record Counting (s : List ℕ) (e p n v : ℕ) : Type 0 where
   pub sum : n + forms coming ≡ v
 
 at-most-one : (s : List ℕ) (p : ℕ) → formAt s p ≤ 1
-at-most-one s p = go (both (eqb (word s p) FORM) (eqb (word s (p + 8)) ILBM))
+at-most-one s p = go (isPicture (word s p) (word s (p + 8)))
   where
     go : (b : Bool) → pick b 1 0 ≤ 1
     go true = omega arith

@@ -7,7 +7,9 @@ use Rattle.iff_name.specs.Name.{both, pick}
 use Rattle.iff_chunk.specs.Chunks.{Chunks, Chunk, word}
 use Rattle.iff_walk.specs.Coming.{Coming}
 use Rattle.iff_tree.specs.Judge.{Found, found, refused, readFile}
-use Rattle.ilbm_spec.specs.Contents.{FORM, ILBM, contentsOf}
+use Rattle.iff_name.specs.Codes.{FORM}
+use Rattle.ilbm_spec.specs.Names.{ILBM, isPicture}
+use Rattle.ilbm_spec.specs.Contents.{contentsOf}
 use Rattle.ilbm_count.specs.declared.Counted.{Counted}
 use Rattle.ilbm_count.specs.declared.Counted.the-variants.{Pictures, Refused}
 
@@ -21,7 +23,7 @@ countOf s = countIn (readFile s)
 
 -- 1 if a FORM ILBM stands at p, else 0
 abbrev pub formAt : List ℕ → ℕ → ℕ
-formAt s p = pick (both (eqb (word s p) FORM) (eqb (word s (p + 8)) ILBM)) 1 0
+formAt s p = pick (isPicture (word s p) (word s (p + 8))) 1 0
 
 -- whole chunks stand from p to the end
 abbrev pub Standing : List ℕ → ℕ → ℕ → Type 0

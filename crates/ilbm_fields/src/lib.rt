@@ -1,22 +1,18 @@
 // The fields in the data of a picture's properties.
+use iff_chunk::size_at;
 use ilbm_spec::BitmapHeader;
 use ilbm_spec::Destination;
 use ilbm_spec::HotSpot;
 ghost use mathlib.Core.Path.{_≡_};
 ghost use Prim.Native.Nat.{_+_, _*_, _≤_};
 ghost use lib.ListN.{length};
-ghost use Rattle.ilbm_spec.specs.Pictures.{u16, u32, signed, headerIn, hotSpotIn, destinationIn};
+ghost use Rattle.iff_chunk.specs.Chunks.{word};
+ghost use Rattle.ilbm_spec.specs.Pictures.{u16, signed, headerIn, hotSpotIn, destinationIn};
 
 fn pair(a: u8, b: u8) -> u16
     ensures { λ r. ⌜ r ≡ a * 256 + b ⌝ }
 {
     (a as u16) * 256 + (b as u16)
-}
-
-fn quad(a: u8, b: u8, c: u8, d: u8) -> u32
-    ensures { λ r. ⌜ r ≡ a * 16777216 + b * 65536 + c * 256 + d ⌝ }
-{
-    (a as u32) * 16777216 + (b as u32) * 65536 + (c as u32) * 256 + (d as u32)
 }
 
 fn signed(v: u16) -> i16
@@ -40,9 +36,9 @@ pub fn word_at(d: &[u8], i: usize) -> u16
 // A big-endian number of four bytes.
 pub fn long_at(d: &[u8], i: usize) -> u32
     requires { ⌜ i + 4 ≤ length (now d) ⌝ }
-    ensures { λ r. ⌜ r ≡ u32 (now (d .entry)) i ⌝ }
+    ensures { λ r. ⌜ r ≡ word (now (d .entry)) i ⌝ }
 {
-    quad(d[i], d[i + 1], d[i + 2], d[i + 3])
+    size_at(d, i) as u32
 }
 
 fn signed_at(d: &[u8], i: usize) -> i16

@@ -10,9 +10,11 @@ use Rattle.iff_tree.specs.Judge.{Found, found, refused, readFile, verdictOf, ch
 use Rattle.iff_tree.specs.declared.Verdict.{Verdict}
 use Rattle.iff_tree.specs.declared.Verdict.the-variants.{Refused}
 use Rattle.iff_walk.specs.Coming.{Sound}
-use Rattle.ilbm_spec.specs.Contents.{BMHD, CMAP, GRAB, DEST, SPRT, CAMG, SharedProp, contentOf, contentsOf}
-use Rattle.ilbm_spec.specs.Places.{propertyAt, PictureForm, formAt, formsOf, contentsIn, contents-of-forms, placeAmong}
-use Rattle.ilbm_spec.specs.Pictures.{pictureFault, unseen, judged, pickContent, viewIn, viewOf}
+use Rattle.ilbm_spec.specs.Names.{BMHD, CMAP, GRAB, DEST, SPRT, CAMG}
+use Rattle.ilbm_spec.specs.Contents.{SharedProp, contentOf, contentsOf}
+use Rattle.ilbm_spec.specs.Places.{propertyAt, PictureForm, formAt, formsOf, contentsIn, placeAmong}
+use Rattle.ilbm_spec.specs.laws.Places.{contents-of-forms}
+use Rattle.ilbm_spec.specs.Pictures.{pictureRefusal, judged, pickContent, viewIn, viewOf}
 use Rattle.ilbm_members.specs.Members.{Holds, Row}
 use Rattle.ilbm_locate.specs.declared.Spot.{Spot}
 use Rattle.ilbm_locate.specs.declared.Spot.the-variants.{Here, Left}
@@ -20,8 +22,8 @@ use Rattle.ilbm_locate.specs.Spots.{Opens, ScopeIs, Scoped, Spotted, Seeks}
 use Rattle.ilbm_content.specs.declared.Contents.{Contents}
 use Rattle.ilbm_content.specs.Held.{ContentIs}
 use Rattle.ilbm_find.specs.declared.View.{View}
-use Rattle.ilbm_find.specs.declared.View.the-variants.{Seen, Unseen}
-use Rattle.ilbm_faults.specs.Faults.{Full, FaultTold}
+use Rattle.ilbm_find.specs.declared.View.the-variants.{Seen, Refused as View-refused}
+use Rattle.ilbm_refusals.specs.Refusals.{Full, RefusalIs}
 use Rattle.ilbm_find.specs.Seen.{ViewIs, Begins, Placed, FormIn, FormView}
 
 -- the FORM at a place
@@ -36,20 +38,20 @@ module _ (s : List ℕ) (form prop z : ℕ) (i : z ≡ word s (form + 4)) where
     pub form-full : FormIn s form prop → Full s c
     form-full (G, scope, o, k) = (contentOf G scope, w .at G (o .0) scope (rw i (o .1)) k)
 
-    module _ (n : ℕ) (v : FaultTold s c n) where
+    module _ (n : ℕ) (v : RefusalIs s c n) where
       pub form-seen : n ≡ 0 → FormView s form prop (Seen c)
       form-seen j = record { at = go; starts = λ G scope o k. w .starts G (o .0) scope (rw i (o .1)) k }
         where
           go : (G : Chunks) (scope : List SharedProp) → Opens s form G → ScopeIs s prop scope → ViewIs s (Seen c) (judged (contentOf G scope))
           go G scope o k =
               let x = w .at G (o .0) scope (rw i (o .1)) k in
-              let e : pictureFault (contentOf G scope) ≡ 0 = sym (v .at (contentOf G scope) x) ∙ j in
+              let e : pictureRefusal (contentOf G scope) ≡ 0 = sym (v .at (contentOf G scope) x) ∙ j in
               (contentOf G scope, rw (eq-eqb _ _ e), x, e)
 
-      pub form-unseen : (n ≡ 0 → ⊥) → FormView s form prop (Unseen n 0)
+      pub form-unseen : (n ≡ 0 → ⊥) → FormView s form prop (View-refused n 0)
       form-unseen j = record { at = go; starts = λ G scope o k. tt }
         where
-          go : (G : Chunks) (scope : List SharedProp) → Opens s form G → ScopeIs s prop scope → ViewIs s (Unseen n 0) (judged (contentOf G scope))
+          go : (G : Chunks) (scope : List SharedProp) → Opens s form G → ScopeIs s prop scope → ViewIs s (View-refused n 0) (judged (contentOf G scope))
           go G scope o k =
               let e = v .at (contentOf G scope) (w .at G (o .0) scope (rw i (o .1)) k) in
               rw (← e, ne-eqb _ _ j)
@@ -67,7 +69,7 @@ pub no-scope : (s : List ℕ) → Scoped s 0
 no-scope s = ([], refl)
 
 -- the form of number i gives the content and the places of number i
-pick-none : (fs : List PictureForm) (i : ℕ) → drop i fs ≡ [] → pickContent (contentsIn fs) i ≡ unseen 20 0
+pick-none : (fs : List PictureForm) (i : ℕ) → drop i fs ≡ [] → pickContent (contentsIn fs) i ≡ refused 20 0
 unfolding pickContent contentsIn
 pick-none [] zero e = refl
 pick-none [] (suc i) e = refl
@@ -98,7 +100,7 @@ begins-same (Seen c) f g e w =
       sprt = w .sprt ∙ e SPRT;
       camg = w .camg ∙ e CAMG;
     }
-begins-same (Unseen k p) f g e w = tt
+begins-same (View-refused k p) f g e w = tt
 
 module _ (s : List ℕ) (e i : ℕ) (f : Sound s e) (r : Spot) (w : Seeks s 0 e 0 i r) where
   spotted : Spotted s i (formsOf (f .chunk)) r
@@ -126,15 +128,15 @@ module _ (s : List ℕ) (e i : ℕ) (f : Sound s e) (r : Spot) (w : Seeks s 0 e 
         (k .starts (x .0) (x .1) (x .3) (x .4)) in
         record { at = rw (f .read) z }
 
-  pub view-left : (m : ℕ) → r ≡ Left m → viewOf s i ≡ unseen 20 0
+  pub view-left : (m : ℕ) → r ≡ Left m → viewOf s i ≡ refused 20 0
   view-left m j =
       let x : Spotted s i (formsOf (f .chunk)) (Left m) = rw j at spotted in
       let d : drop i (formsOf (f .chunk)) ≡ [] = rw append-nil at (x []) ∙ drop-none m in
       rw (f .read, ← contents-forms) (pick-none (formsOf (f .chunk)) i d)
 
-refused-view : (s : List ℕ) (i : ℕ) (f : Found Chunk) (k p : ℕ) → Refused k p ≡ verdictOf s f → viewIn f i ≡ unseen k p
+refused-view : (s : List ℕ) (i : ℕ) (f : Found Chunk) (k p : ℕ) → Refused k p ≡ verdictOf s f → viewIn f i ≡ refused k p
 refused-view s i (found c) k p e = absurd (let z : _≡_ {A = ℕ} 0 1 = cc in omega arith)
 refused-view s i (refused a b) k p e = cc
 
-pub view-refused : (s : List ℕ) (i : ℕ) (v : Verdict) (k p : ℕ) → v ≡ checkOf s → v ≡ Refused k p → viewOf s i ≡ unseen k p
+pub view-refused : (s : List ℕ) (i : ℕ) (v : Verdict) (k p : ℕ) → v ≡ checkOf s → v ≡ Refused k p → viewOf s i ≡ refused k p
 view-refused s i v k p a b = refused-view s i (readFile s) k p (sym b ∙ a)

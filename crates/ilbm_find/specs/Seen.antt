@@ -5,21 +5,22 @@ use mathlib.Core.List.{List}
 use Rattle.iff_chunk.specs.Chunks.{Chunks}
 use Rattle.ilbm_spec.specs.Contents.{SharedProp, Content, contentOf}
 use Rattle.ilbm_spec.specs.Places.{propertyAt, placeOf}
-use Rattle.ilbm_spec.specs.Pictures.{pictureFault, Viewed, viewed, unseen, judged}
+use Rattle.ilbm_spec.specs.Pictures.{pictureRefusal, Viewed, judged}
 use Rattle.ilbm_locate.specs.Spots.{Opens, ScopeIs}
 use Rattle.ilbm_content.specs.Held.{ContentsAre, StartsAre}
 use Rattle.ilbm_find.specs.declared.View.{View}
-use Rattle.ilbm_find.specs.declared.View.the-variants.{Seen, Unseen}
+use Rattle.iff_tree.specs.Judge.{found, refused}
+use Rattle.ilbm_find.specs.declared.View.the-variants.{Seen, Refused as View-refused}
 
 -- the picture that is seen, or the refusal
 abbrev pub ViewIs : List ℕ → View → Viewed → Type 0
-ViewIs s (Seen c) v = (x : Content) × (v ≡ viewed x) × ContentsAre s c x × (pictureFault x ≡ 0)
-ViewIs s (Unseen k p) v = v ≡ unseen k p
+ViewIs s (Seen c) v = (x : Content) × (v ≡ found x) × ContentsAre s c x × (pictureRefusal x ≡ 0)
+ViewIs s (View-refused k p) v = v ≡ refused k p
 
 -- what is seen begins at the place for each property's name
 abbrev pub Begins : View → (ℕ → ℕ) → Type 0
 Begins (Seen c) place = StartsAre c place
-Begins (Unseen k p) place = Unit {0}
+Begins (View-refused k p) place = Unit {0}
 
 -- and these are the places of picture i's properties
 pub record Placed (s : List ℕ) (i : ℕ) (v : View) : Type 0 where

@@ -2,7 +2,7 @@
 use iff_chunk::size_at;
 use ilbm_content::Contents;
 use ilbm_content::content_at;
-use ilbm_faults::fault;
+use ilbm_refusals::refusal;
 use ilbm_locate::Spot;
 use ilbm_locate::seek;
 use iff_tree::Verdict;
@@ -14,7 +14,7 @@ ghost use Rattle.iff_walk.specs.Coming.{Sound};
 // A picture's content, or the number and place of a refusal.
 pub enum View {
     Seen(Contents),
-    Unseen(usize, usize),
+    Refused(usize, usize),
 }
 
 // The picture in the FORM at a place, with the shared PROP at another.
@@ -24,11 +24,11 @@ fn view_form(s: &[u8], form: usize, prop: usize) -> View
 {
     let end = form + 8 + size_at(s, form + 4);
     let c = content_at(s, form + 12, end, prop);
-    let number = fault(s, c);
+    let number = refusal(s, c);
     if number == 0 {
         return View::Seen(c);
     }
-    View::Unseen(number, 0)
+    View::Refused(number, 0)
 }
 
 // The picture of number i in a sound file that ends at a place.
@@ -40,7 +40,7 @@ fn view_sound(s: &[u8], end: usize, i: usize) -> View
     let spot = seek(s, 0, end, 0, i);
     match spot {
         Spot::Here(form, prop) => view_form(s, form, prop),
-        Spot::Left(_) => View::Unseen(20, 0),
+        Spot::Left(_) => View::Refused(20, 0),
     }
 }
 
@@ -56,6 +56,6 @@ pub fn view_picture(s: &[u8], i: usize) -> View
             end,
             trailing: _,
         } => view_sound(s, end, i),
-        Verdict::Refused { number, place } => View::Unseen(number, place),
+        Verdict::Refused { number, place } => View::Refused(number, place),
     }
 }

@@ -13,8 +13,10 @@ use Rattle.iff_name.specs.Name.{both, kindOf}
 use Rattle.iff_name.specs.declared.Kind.{Kind}
 use Rattle.iff_chunk.specs.Chunks.{Chunks, none, leaf, group, bytes, word}
 use Rattle.iff_rules.specs.Rules.{isGroup}
-use Rattle.iff_grammar.specs.Read.{length-leaf, length-group, leaf-name, group-fits, group-name, group-size, group-type, group-members}
-use Rattle.ilbm_spec.specs.Contents.{LIST, PROP, ILBM, SharedProp, propAmong, scopeInside}
+use Rattle.iff_grammar.specs.laws.Read.{leaf-name, group-fits, group-name, group-size, group-type, group-members, length-leaf, length-group}
+use Rattle.iff_name.specs.Codes.{LIST, PROP}
+use Rattle.ilbm_spec.specs.Names.{ILBM, isSharedProp}
+use Rattle.ilbm_spec.specs.Contents.{SharedProp, propAmong, scopeInside}
 use Rattle.ilbm_members.specs.declared.Sibling.{Sibling}
 use Rattle.ilbm_members.specs.Members.{Holds, Row, Front, Tells}
 use Rattle.ilbm_members.proofs.Laws.{row-room, row-next, row-le, more-room, more-less}
@@ -173,7 +175,7 @@ module _ (s : List ℕ) (p e : ℕ) where
             (K, f .2, ap (λ (x : ℕ). propAmong x K) (sym j) ∙ u)
         go F R (group n x G K) h u f y =
             let j : q + (12 + length (bytes G)) ≡ m .next = omega (arith, length-group n x G K, h .ends, f .1 .ends) in
-            let v : both (eqb n PROP) (eqb x ILBM) ≡ false = sym y ∙ i in
+            let v : isSharedProp n x ≡ false = sym y ∙ i in
             (K, f .1, ap (λ (z : ℕ). propAmong z K) (sym j) ∙ (rw v at u))
 
     pub sharing-hit : (prop : ℕ) → b ≡ true → 0 < p → p ≤ q → Shares s p e prop q
@@ -186,7 +188,7 @@ module _ (s : List ℕ) (p e : ℕ) where
         go F R scope none h u y = never (sym i ∙ y)
         go F R scope (leaf n d pd K) h u y = never (sym i ∙ y)
         go F R scope (group n x G K) h u y =
-            let v : both (eqb n PROP) (eqb x ILBM) ≡ true = sym y ∙ i in
+            let v : isSharedProp n x ≡ true = sym y ∙ i in
             let w' : record { place = q; members = G } ∷ [] ≡ propAmong p F = rw v at u in
             rw (← w') (refl, omega arith, opens-here s q e n x G K R h)
 

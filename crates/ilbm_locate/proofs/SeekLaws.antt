@@ -11,8 +11,10 @@ use Rattle.iff_name.specs.Name.{both, kindOf}
 use Rattle.iff_name.specs.declared.Kind.{Kind}
 use Rattle.iff_chunk.specs.Chunks.{Chunks, none, leaf, group, bytes, word}
 use Rattle.iff_rules.specs.Rules.{isGroup}
-use Rattle.iff_grammar.specs.Read.{length-leaf, length-group}
-use Rattle.ilbm_spec.specs.Contents.{FORM, ILBM, SharedProp, scopeInside}
+use Rattle.iff_grammar.specs.laws.Read.{length-leaf, length-group}
+use Rattle.iff_name.specs.Codes.{FORM}
+use Rattle.ilbm_spec.specs.Names.{ILBM, isPicture}
+use Rattle.ilbm_spec.specs.Contents.{SharedProp, scopeInside}
 use Rattle.ilbm_spec.specs.Places.{PictureForm, formAt, formsFrom}
 use Rattle.ilbm_members.specs.declared.Sibling.{Sibling}
 use Rattle.ilbm_members.specs.Members.{Holds, Front, Tells}
@@ -42,7 +44,7 @@ module _ (s : List ℕ) (q e prop : ℕ) where
       go none R scope h c y = never (sym i ∙ y)
       go (leaf n d pd F) R scope h c y = never (sym i ∙ y)
       go (group n t G F) R scope h c y =
-          let v : both (eqb n FORM) (eqb t ILBM) ≡ true = sym y ∙ i in
+          let v : isPicture n t ≡ true = sym y ∙ i in
           (G, scope, formsFrom (q + 12) (scopeInside n q G scope) G, opens-here s q e n t G F R h, c, rw (v, z))
 
   pub spotted-later :
@@ -54,7 +56,7 @@ module _ (s : List ℕ) (q e prop : ℕ) where
       go none R scope h c y = never (sym i ∙ y)
       go (leaf n d pd F) R scope h c y = never (sym i ∙ y)
       go (group n t G F) R scope h c y =
-          let v : both (eqb n FORM) (eqb t ILBM) ≡ true = sym y ∙ i in
+          let v : isPicture n t ≡ true = sym y ∙ i in
           rw v (spotted-past s k (formAt q G scope) (formsFrom (q + 12) (scopeInside n q G scope) G) r (rw sub-one at (w .at n t G F R scope h c)))
 
   pub spotted-inside : (b : Bool) (k : ℕ) (r : Spot) → GroupAt s q e → IsGroupOf s q e FORM ILBM b → b ≡ false → Enters s q e prop k r → Visits s q e prop k r
@@ -63,7 +65,7 @@ module _ (s : List ℕ) (q e prop : ℕ) where
       go : (F : Chunks) (R : List ℕ) (scope : List SharedProp) → Holds s q e F R → ScopeIs s prop scope → b ≡ groupIs FORM ILBM F → Spotted s k (formsHere q scope F) r
       go none R scope h c y = absurd (omega (arith, empty, h .ends, a .1))
       go (leaf n d pd F) R scope h c y = absurd (leaf-no-group s q e n d pd F R h (a .2))
-      go (group n t G F) R scope h c y = let v : both (eqb n FORM) (eqb t ILBM) ≡ false = sym y ∙ i in rw v (w .at n t G F R scope h c)
+      go (group n t G F) R scope h c y = let v : isPicture n t ≡ false = sym y ∙ i in rw v (w .at n t G F R scope h c)
 
   pub leaf-visited : (k : ℕ) → isGroup (kindOf (word s q)) ≡ false → Visits s q e prop k (Left k)
   leaf-visited k g = record { at = go }

@@ -8,7 +8,9 @@ use lib.ListN.{drop}
 use Rattle.iff_name.specs.Name.{both, pick, kindOf}
 use Rattle.iff_rules.specs.Rules.{isGroup}
 use Rattle.iff_chunk.specs.Chunks.{Chunks, none, leaf, group, word}
-use Rattle.ilbm_spec.specs.Contents.{FORM, ILBM, SharedProp, propAmong, scopeInside}
+use Rattle.iff_name.specs.Codes.{FORM}
+use Rattle.ilbm_spec.specs.Names.{ILBM, isPicture}
+use Rattle.ilbm_spec.specs.Contents.{SharedProp, propAmong, scopeInside}
 use Rattle.ilbm_spec.specs.Places.{PictureForm, formAt, formsFrom}
 use Rattle.ilbm_members.specs.Members.{Holds, Row}
 use Rattle.ilbm_locate.specs.declared.Spot.{Spot}
@@ -40,7 +42,7 @@ abbrev pub formsHere : ℕ → List SharedProp → Chunks → List PictureForm
 formsHere p scope none = []
 formsHere p scope (leaf n d pad F) = []
 formsHere p scope (group n t G F) =
-    pick (both (eqb n FORM) (eqb t ILBM)) (formAt p G scope ∷ []) [] ++ formsFrom (p + 12) (scopeInside n p G scope) G
+    pick (isPicture n t) (formAt p G scope ∷ []) [] ++ formsFrom (p + 12) (scopeInside n p G scope) G
 
 -- What the functions find, whatever chunks stand from p to e and whatever scope prop tells.
 pub record Seeks (s : List ℕ) (p e prop k : ℕ) (r : Spot) : Type 0 where

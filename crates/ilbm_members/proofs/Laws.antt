@@ -13,8 +13,10 @@ use native.Mathlib.Omega.{arith}
 use Rattle.iff_name.specs.Name.{pick, kindOf}
 use Rattle.iff_chunk.specs.Chunks.{Chunks, none, leaf, group, bytes, word, nextAt}
 use Rattle.iff_rules.specs.Rules.{isGroup}
-use Rattle.iff_grammar.specs.Read.{Regular, length-leaf, length-group, leaf-fits, leaf-name, leaf-size, leaf-data, leaf-next, leaf-rest, group-name, group-next, group-rest}
-use Rattle.ilbm_spec.specs.Contents.{BODY, lastShared, bodiesIn}
+use Rattle.iff_grammar.specs.Read.{Regular}
+use Rattle.iff_grammar.specs.laws.Read.{leaf-fits, leaf-name, leaf-size, leaf-data, leaf-next, leaf-rest, group-name, group-next, group-rest, length-leaf, length-group}
+use Rattle.ilbm_spec.specs.Names.{BODY}
+use Rattle.ilbm_spec.specs.Contents.{lastShared, bodiesIn}
 use Rattle.ilbm_spec.specs.Places.{lastSharedAt}
 use Rattle.ilbm_members.specs.declared.Sibling.{Sibling}
 use Rattle.ilbm_members.specs.declared.Part.{Part}

@@ -9,7 +9,8 @@ use lib.Seq.{slice}
 use Rattle.iff_name.specs.Name.{pick}
 use Rattle.iff_chunk.specs.Chunks.{Chunks, none, leaf, group, bytes}
 use Rattle.iff_grammar.specs.Read.{Regular}
-use Rattle.ilbm_spec.specs.Contents.{BODY, lastShared, bodiesIn}
+use Rattle.ilbm_spec.specs.Names.{BODY}
+use Rattle.ilbm_spec.specs.Contents.{lastShared, bodiesIn}
 use Rattle.ilbm_spec.specs.Places.{lastSharedAt, orZero}
 use Rattle.ilbm_members.specs.declared.Sibling.{Sibling}
 use Rattle.ilbm_members.specs.declared.Part.{Part}

@@ -7,7 +7,7 @@ ghost use mathlib.Core.Bool.{false};
 ghost use Prim.Native.Nat.{_+_, _<_};
 ghost use Rattle.iff_name.specs.Name.{pick, kindOf};
 ghost use Rattle.iff_rules.specs.Rules.{isGroup};
-ghost use Rattle.ilbm_spec.specs.Contents.{BODY};
+ghost use Rattle.ilbm_spec.specs.Names.{BODY};
 ghost use Rattle.ilbm_members.specs.Members.{Row, Tells, IsLast, CountsBodies, StopsAtBody, IsBody};
 ghost use Rattle.ilbm_members.specs.declared.Part.the-variants.{Between};
 

@@ -7,12 +7,13 @@ use lib.ListN.{take, drop}
 use native.Mathlib.Nat.{mul-le-mul-right}
 use native.Mathlib.Omega.{arith}
 use Rattle.iff_name.specs.Name.{pick}
-use Rattle.ilbm_spec.specs.Rows.{rowLength, Read, read, fault, thenRead, rowsFrom, coloursFrom, written}
+use Rattle.ilbm_spec.specs.Rows.{rowLength, Read, thenRead, rowsFrom, coloursFrom, bytesAfter}
 use Rattle.ilbm_gather.specs.Buffer.{rowsIn}
-use Rattle.ilbm_plane_rows.specs.Scan.{told, IsRead, lineBy}
-use Rattle.ilbm_plane_rows.proofs.Judging.{told-next, told-read, told-fault}
+use Rattle.ilbm_plane_rows.specs.Scan.{scannedOf, IsRead, lineBy}
+use Rattle.ilbm_plane_rows.proofs.Judging.{told-next, told-read, told-refusal}
 use Rattle.ilbm_plane_rows.specs.declared.Scanned.{Scanned}
-use Rattle.ilbm_plane_rows.specs.declared.Scanned.the-variants.{Next, Fault}
+use Rattle.iff_tree.specs.Judge.{found, refused}
+use Rattle.ilbm_plane_rows.specs.declared.Scanned.the-variants.{Next, Refused as Scanned-refused}
 
 -- a line has at most nine rows, which have room in a buffer of nine times their length
 pub line-rows : (planes : ℕ) (masked : Bool) → planes ≤ 8 → planes + pick masked 1 0 ≤ 9
@@ -44,33 +45,33 @@ module _ (compression : ℕ) (body : List ℕ) (w planes rows at n : ℕ) (e : n
   rows-read i = rw e i
 
   pub line-written :
-      (buffer row : List ℕ) (q m : ℕ) → m ≡ w → planes ≤ rows → rowsFrom compression body n rows at ≡ read (rowsIn n rows 0 buffer) q →
-      row ≡ coloursFrom 0 m (rowsIn n planes 0 buffer) → lineBy compression w planes rows body at ≡ read row q
+      (buffer row : List ℕ) (q m : ℕ) → m ≡ w → planes ≤ rows → rowsFrom compression body n rows at ≡ found ((rowsIn n rows 0 buffer), q) →
+      row ≡ coloursFrom 0 m (rowsIn n planes 0 buffer) → lineBy compression w planes rows body at ≡ found (row, q)
   line-written buffer row q m l h f g =
-      let a : rowsFrom compression body (rowLength w) rows at ≡ read (rowsIn n rows 0 buffer) q = rw (← e) f in
+      let a : rowsFrom compression body (rowLength w) rows at ≡ found ((rowsIn n rows 0 buffer), q) = rw (← e) f in
       rw (a, rows-first n rows planes 0 buffer h, g, l)
 
   -- what was judged of the rows
-  module _ (r : Scanned) (j : r ≡ told (rowsFrom compression body n rows at)) where
+  module _ (r : Scanned) (j : r ≡ scannedOf (rowsFrom compression body n rows at)) where
     pub rows-judged : (q : ℕ) → r ≡ Next q → IsRead (rowsFrom compression body (rowLength w) rows at)
     rows-judged q d = told-next (rowsFrom compression body (rowLength w) rows at) r (rw e at j) q d
 
     module _ (m : ℕ) (c : rows ≡ m) (old : List ℕ) where
-      line-told : r ≡ told (lineBy compression w planes m body at)
+      line-told : r ≡ scannedOf (lineBy compression w planes m body at)
       line-told = rw (← c) (rw e at j ∙ go (rowsFrom compression body (rowLength w) rows at))
         where
-          go : (v : Read (List (List ℕ))) → told v ≡ told (thenRead v (λ planeRows q. read (coloursFrom 0 w (take planes planeRows)) q))
-          go (read a p) = refl
-          go (fault k p) = refl
+          go : (v : Read (List (List ℕ))) → scannedOf v ≡ scannedOf (thenRead v (λ planeRows q. found ((coloursFrom 0 w (take planes planeRows)), q)))
+          go (found (a, p)) = refl
+          go (refused k p) = refl
 
       pub line-read :
-          (new : List ℕ) (q p : ℕ) → r ≡ Next q → lineBy compression w planes rows body at ≡ read new p →
-          (Next q ≡ told (lineBy compression w planes m body at)) × (new ≡ written (lineBy compression w planes m body at) old)
+          (new : List ℕ) (q p : ℕ) → r ≡ Next q → lineBy compression w planes rows body at ≡ found (new, p) →
+          (Next q ≡ scannedOf (lineBy compression w planes m body at)) × (new ≡ bytesAfter (lineBy compression w planes m body at) old)
       line-read new q p d i = told-read (lineBy compression w planes m body at) r line-told old new q p d (rw c at i)
 
-      pub line-fault :
-          (k p : ℕ) → r ≡ Fault k p →
-          (Fault k p ≡ told (lineBy compression w planes m body at)) × (old ≡ written (lineBy compression w planes m body at) old)
-      line-fault k p d = told-fault (lineBy compression w planes m body at) r line-told old k p d
+      pub line-refusal :
+          (k p : ℕ) → r ≡ Scanned-refused k p →
+          (Scanned-refused k p ≡ scannedOf (lineBy compression w planes m body at)) × (old ≡ bytesAfter (lineBy compression w planes m body at) old)
+      line-refusal k p d = told-refusal (lineBy compression w planes m body at) r line-told old k p d
 
-pub ruleset lines = (count-room, rows-fit, rows-read, line-written, rows-judged, line-read, line-fault)
+pub ruleset lines = (count-room, rows-fit, rows-read, line-written, rows-judged, line-read, line-refusal)

@@ -9,10 +9,11 @@ use mir.Val.{Fits}
 use native.Mathlib.Numerals.{add-one}
 use native.Mathlib.Omega.{arith}
 use Rattle.byterun_row.specs.ByteRun.{Row, filled, over, short, rowOf, IsFull}
-use Rattle.ilbm_spec.specs.Rows.{Read, read, fault, thenRead, rowRead, rowsFrom}
+use Rattle.ilbm_spec.specs.Rows.{Read, thenRead, rowRead, rowsFrom}
 use Rattle.ilbm_gather.specs.Buffer.{rowsIn}
 use Rattle.ilbm_gather.proofs.Colours.{row-room}
 use Rattle.ilbm_plane_rows.specs.Scan.{IsRead}
+use Rattle.iff_tree.specs.Judge.{found, refused}
 use Rattle.ilbm_plane_rows.proofs.Judging.{onward, rows-once, rows-none}
 
 -- what lies inside the first of two lists is found there
@@ -60,8 +61,8 @@ rows-more n k old new tail h l =
 pub record Written (compression : ℕ) (body : List ℕ) (n rows at k q : ℕ) (buffer : List ℕ) : Type 0 where
   pub left : List (List ℕ)
   pub end : ℕ
-  pub to-come : rowsFrom compression body n (rows - k) q ≡ read left end
-  pub whole : rowsFrom compression body n rows at ≡ read (rowsIn n k 0 buffer ++ left) end
+  pub to-come : rowsFrom compression body n (rows - k) q ≡ found (left, end)
+  pub whole : rowsFrom compression body n rows at ≡ found ((rowsIn n k 0 buffer ++ left), end)
 
 module _ (compression : ℕ) (body : List ℕ) (n rows at : ℕ) where
   pub written-start : (buffer : List ℕ) → IsRead (rowsFrom compression body n rows at) → Written compression body n rows at 0 at buffer
@@ -69,19 +70,19 @@ module _ (compression : ℕ) (body : List ℕ) (n rows at : ℕ) where
   written-start buffer r = go (rowsFrom compression body n rows at) refl r
     where
       go : (v : Read (List (List ℕ))) → rowsFrom compression body n rows at ≡ v → IsRead v → Written compression body n rows at 0 at buffer
-      go (read a p) e i = let z : rows - 0 ≡ rows = omega arith in record { left = a; end = p; to-come = rw z e; whole = e }
-      go (fault f p) e i = absurd i
+      go (found (a, p)) e i = let z : rows - 0 ≡ rows = omega arith in record { left = a; end = p; to-come = rw z e; whole = e }
+      go (refused f p) e i = absurd i
 
   module _ (k q : ℕ) (buffer : List ℕ) (w : Written compression body n rows at k q buffer) where
     module _ (h : k < rows) where
-      first : thenRead (rowRead (rowOf compression body q n)) (λ bs p. onward bs (rowsFrom compression body n (rows - (k + 1)) p)) ≡ read (w .left) (w .end)
+      first : thenRead (rowRead (rowOf compression body q n)) (λ bs p. onward bs (rowsFrom compression body n (rows - (k + 1)) p)) ≡ found ((w .left), (w .end))
       first = rw (rows-once compression body n rows k q h) at (w .to-come)
 
       pub written-full : (m : ℕ) → m ≡ n → IsFull (rowOf compression body q m)
       written-full m e = rw e (go (rowOf compression body q n) first)
         where
           go :
-              (v : Row) → thenRead (rowRead v) (λ bs p. onward bs (rowsFrom compression body n (rows - (k + 1)) p)) ≡ read (w .left) (w .end) → IsFull v
+              (v : Row) → thenRead (rowRead v) (λ bs p. onward bs (rowsFrom compression body n (rows - (k + 1)) p)) ≡ found ((w .left), (w .end)) → IsFull v
           go (filled bs s) f = tt
           go (over s) f = let z : _≡_ {A = ℕ} 0 1 = cc in absurd (omega arith)
           go (short s) f = let z : _≡_ {A = ℕ} 0 1 = cc in absurd (omega arith)
@@ -91,13 +92,13 @@ module _ (compression : ℕ) (body : List ℕ) (n rows at : ℕ) where
           Written compression body n rows at (k + 1) p (take (k * n) buffer ++ (new ++ tail))
       written-more m p new tail e d l i = go (rowsFrom compression body n (rows - (k + 1)) p) refl next
         where
-          next : onward new (rowsFrom compression body n (rows - (k + 1)) p) ≡ read (w .left) (w .end)
+          next : onward new (rowsFrom compression body n (rows - (k + 1)) p) ≡ found ((w .left), (w .end))
           next = rw (rw e at i) at first
 
           go :
-              (v : Read (List (List ℕ))) → rowsFrom compression body n (rows - (k + 1)) p ≡ v → onward new v ≡ read (w .left) (w .end) →
+              (v : Read (List (List ℕ))) → rowsFrom compression body n (rows - (k + 1)) p ≡ v → onward new v ≡ found ((w .left), (w .end)) →
               Written compression body n rows at (k + 1) p (take (k * n) buffer ++ (new ++ tail))
-          go (read rest r) u f =
+          go (found (rest, r)) u f =
               let x : w .left ≡ new ∷ rest = cc in
               let y : w .end ≡ r = cc in
               record {
@@ -106,15 +107,15 @@ module _ (compression : ℕ) (body : List ℕ) (n rows at : ℕ) where
                 to-come = u;
                 whole = rw (rows-more n k buffer new tail d (l ∙ e), append-assoc (rowsIn n k 0 buffer) (new ∷ []) rest) (rw (x, y) at (w .whole));
               }
-          go (fault f s) u g = let z : _≡_ {A = ℕ} 0 1 = cc in absurd (omega arith)
+          go (refused f s) u g = let z : _≡_ {A = ℕ} 0 1 = cc in absurd (omega arith)
 
-    pub written-end : k ≤ rows → rows ≤ k → rowsFrom compression body n rows at ≡ read (rowsIn n rows 0 buffer) q
+    pub written-end : k ≤ rows → rows ≤ k → rowsFrom compression body n rows at ≡ found ((rowsIn n rows 0 buffer), q)
     written-end a b =
-        let none : read [] q ≡ read (w .left) (w .end) = rw (rows-none compression body n rows k q b) at (w .to-come) in
+        let none : read [] q ≡ found ((w .left), (w .end)) = rw (rows-none compression body n rows k q b) at (w .to-come) in
         let x : w .left ≡ [] = cc in
         let y : w .end ≡ q = cc in
         let z : rows ≡ k = omega arith in
-        let u : rowsFrom compression body n rows at ≡ read (rowsIn n k 0 buffer ++ []) q = rw (x, y) at (w .whole) in
+        let u : rowsFrom compression body n rows at ≡ found ((rowsIn n k 0 buffer ++ []), q) = rw (x, y) at (w .whole) in
         u ∙ rw (z, append-nil (rowsIn n k 0 buffer))
 
 -- the places of row k

@@ -7,14 +7,15 @@ ghost use mathlib.Core.Path.{_≡_};
 ghost use Prim.Native.Nat.{_+_, _*_, _≤_};
 ghost use lib.ListN.{length};
 ghost use Rattle.iff_name.specs.Name.{pick};
-ghost use Rattle.ilbm_spec.specs.Rows.{rowLength, read, rowsFrom};
+ghost use Rattle.iff_tree.specs.Judge.{found};
+ghost use Rattle.ilbm_spec.specs.Rows.{rowLength, rowsFrom};
 ghost use Rattle.ilbm_gather.specs.Buffer.{rowsIn};
-ghost use Rattle.ilbm_plane_rows.specs.Scan.{told, IsRead, lineBy};
+ghost use Rattle.ilbm_plane_rows.specs.Scan.{scannedOf, IsRead, lineBy};
 
 // The next place, or the number and place of a fault.
 pub enum Scanned {
     Next(usize),
-    Fault { number: usize, place: usize },
+    Refused { number: usize, place: usize },
 }
 
 // The bytes of a plane row.
@@ -35,7 +36,7 @@ pub fn row_count(planes: usize, masked: bool) -> usize
 
 // Steps from row to row, with no byte written.
 pub fn judge_rows(body: &[u8], at: usize, n: usize, rows: usize, compression: u8) -> Scanned
-    ensures { λ r. ⌜ r ≡ told (rowsFrom compression (now (body .entry)) n rows at) ⌝ }
+    ensures { λ r. ⌜ r ≡ scannedOf (rowsFrom compression (now (body .entry)) n rows at) ⌝ }
 {
     let mut q = at;
     let mut k = 0;
@@ -47,10 +48,10 @@ pub fn judge_rows(body: &[u8], at: usize, n: usize, rows: usize, compression: u8
                 k = k + 1;
             }
             RowAnswer::Oversteps(place) => {
-                return Scanned::Fault { number: 27, place };
+                return Scanned::Refused { number: 27, place };
             }
             RowAnswer::Ends(place) => {
-                return Scanned::Fault { number: 26, place };
+                return Scanned::Refused { number: 26, place };
             }
         }
     }
@@ -68,7 +69,7 @@ fn write_rows(
 ) -> usize
     requires { ⌜ rows * n ≤ length (now buffer) ⌝ }
     requires { ⌜ IsRead (rowsFrom compression (now body) n rows at) ⌝ }
-    ensures { λ r. ⌜ rowsFrom compression (now (body .entry)) n rows at ≡ read (rowsIn n rows 0 (now (buffer .exit))) r ⌝ }
+    ensures { λ r. ⌜ rowsFrom compression (now (body .entry)) n rows at ≡ found ((rowsIn n rows 0 (now (buffer .exit))), r) ⌝ }
 {
     let mut q = at;
     let mut k = 0;
@@ -95,7 +96,7 @@ pub fn write_line(
     requires { ⌜ (w ≤ 65535) × (planes ≤ 8) × (planes ≤ rows) ⌝ }
     requires { ⌜ (rows * rowLength w ≤ length (now buffer)) × (length (now row) ≡ w) ⌝ }
     requires { ⌜ IsRead (rowsFrom compression (now body) (rowLength w) rows at) ⌝ }
-    ensures { λ r. ⌜ lineBy compression w planes rows (now (body .entry)) at ≡ read (now (row .exit)) r ⌝ }
+    ensures { λ r. ⌜ lineBy compression w planes rows (now (body .entry)) at ≡ found ((now (row .exit)), r) ⌝ }
 {
     let n = row_length(w);
     let next = write_rows(body, at, n, rows, compression, buffer);

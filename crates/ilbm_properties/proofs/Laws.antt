@@ -9,23 +9,25 @@ use lib.IntN.{pos}
 use borrow.Author.Tests.{eqb-true}
 use native.Mathlib.Omega.{arith}
 use Rattle.iff_name.specs.Name.{either, pick}
+use Rattle.iff_chunk.specs.Chunks.{word}
 use Rattle.ilbm_spec.specs.declared.BitmapHeader.{BitmapHeader}
 use Rattle.ilbm_spec.specs.declared.HotSpot.{HotSpot}
 use Rattle.ilbm_spec.specs.declared.Destination.{Destination}
 use Rattle.ilbm_spec.specs.declared.Picture.{Picture}
 use Rattle.ilbm_spec.specs.declared.PictureAnswer.the-variants.{Shown, Refused}
 use Rattle.ilbm_spec.specs.Contents.{Property, own, shared, absent, Content}
-use Rattle.ilbm_spec.specs.Pictures.{u16, u32, headerIn, hotSpotIn, destinationIn, dataOf, originOf, counts, sizeNot, sizeNotTriples, wrongSize, headerFault, pictureFault, pictureFrom, unseen, viewOf, pictureOf}
+use Rattle.ilbm_spec.specs.Pictures.{u16, headerIn, hotSpotIn, destinationIn, dataOf, originOf, counts, sizeNot, sizeNotTriples, wrongSize, headerRefusal, pictureRefusal, pictureFrom, viewOf, pictureOf}
 use Rattle.ilbm_members.specs.declared.Part.the-variants.{Nothing, Between}
 use Rattle.ilbm_content.specs.declared.Held.{Held}
 use Rattle.ilbm_content.specs.declared.Contents.{Contents}
 use Rattle.ilbm_content.specs.Held.{HeldIs}
 use Rattle.ilbm_find.specs.declared.View.{View}
-use Rattle.ilbm_find.specs.declared.View.the-variants.{Seen, Unseen}
+use Rattle.ilbm_find.specs.declared.View.the-variants.{Seen, Refused as View-refused}
 use Rattle.ilbm_find.specs.Seen.{ViewIs}
-use Rattle.ilbm_faults.proofs.Laws.{held-some, held-none}
-use Rattle.ilbm_faults.proofs.FaultLaws.{held-data, data-taken}
-use Rattle.ilbm_properties.specs.Told.{OfSize, Judged, HeaderTold, GrabTold, DestinationTold, WordTold, LongTold, PictureTold}
+use Rattle.ilbm_refusals.proofs.Laws.{held-some, held-none}
+use Rattle.ilbm_refusals.proofs.RefusalLaws.{held-data, data-taken}
+use Rattle.iff_tree.specs.Judge.{refused}
+use Rattle.ilbm_properties.specs.Fields.{OfSize, Judged, HeaderIs, GrabIs, DestinationIs, WordIs, LongIs, PictureIs}
 
 not-false : (b : Bool) → not b ≡ false → b ≡ true
 not-false true e = refl
@@ -54,20 +56,20 @@ pub ruleset size-laws = (size-order, size-inside, size-room, size-room-0)
 
 -- what is read of it
 module _ (s : List ℕ) (h : Held) (a b : ℕ) (i : h .part ≡ Between a b) where
-  pub header-some : (r : BitmapHeader) → r ≡ headerIn (take (b - a) (drop a s)) → HeaderTold s h r
+  pub header-some : (r : BitmapHeader) → r ≡ headerIn (take (b - a) (drop a s)) → HeaderIs s h r
   header-some r e = record { at = λ q k. e ∙ ap headerIn (data-taken s h q a b k i) }
 
-  pub grab-some : (r : HotSpot) → r ≡ hotSpotIn (take (b - a) (drop a s)) → GrabTold s h r
+  pub grab-some : (r : HotSpot) → r ≡ hotSpotIn (take (b - a) (drop a s)) → GrabIs s h r
   grab-some r e = record { at = λ q k. e ∙ ap hotSpotIn (data-taken s h q a b k i) }
 
-  pub destination-some : (r : Destination) → r ≡ destinationIn (take (b - a) (drop a s)) → DestinationTold s h r
+  pub destination-some : (r : Destination) → r ≡ destinationIn (take (b - a) (drop a s)) → DestinationIs s h r
   destination-some r e = record { at = λ q k. e ∙ ap destinationIn (data-taken s h q a b k i) }
 
-  pub word-some : (r : ℕ) → r ≡ u16 (take (b - a) (drop a s)) 0 → WordTold s h r
+  pub word-some : (r : ℕ) → r ≡ u16 (take (b - a) (drop a s)) 0 → WordIs s h r
   word-some r e = record { at = λ q k. e ∙ ap (λ (d : List ℕ). u16 d 0) (data-taken s h q a b k i) }
 
-  pub long-some : (r : ℕ) → r ≡ u32 (take (b - a) (drop a s)) 0 → LongTold s h r
-  long-some r e = record { at = λ q k. e ∙ ap (λ (d : List ℕ). u32 d 0) (data-taken s h q a b k i) }
+  pub long-some : (r : ℕ) → r ≡ word (take (b - a) (drop a s)) 0 → LongIs s h r
+  long-some r e = record { at = λ q k. e ∙ ap (λ (d : List ℕ). word d 0) (data-taken s h q a b k i) }
 
 no-data : (q : Property) → counts q ≡ false → dataOf q ≡ []
 no-data (own d) e = absurd (let z : _≡_ {A = ℕ} 0 1 = cc in omega arith)
@@ -79,7 +81,7 @@ module _ (s : List ℕ) (h : Held) (i : h .part ≡ Nothing) where
   nothing-in q k = no-data q (held-none s h q k i)
 
   pub header-none :
-      HeaderTold s h
+      HeaderIs s h
       (record {
         w = 0;
         h = 0;
@@ -98,18 +100,19 @@ module _ (s : List ℕ) (h : Held) (i : h .part ≡ Nothing) where
   unfolding headerIn
   header-none = record { at = λ q k. rw (nothing-in q k) }
 
-  pub grab-none : GrabTold s h (record { x = pos 0; y = pos 0 })
+  pub grab-none : GrabIs s h (record { x = pos 0; y = pos 0 })
   unfolding hotSpotIn
   grab-none = record { at = λ q k. rw (nothing-in q k) }
 
-  pub destination-none : DestinationTold s h (record { depth = 0; pad1 = 0; «plane_pick» = 0; «plane_on_off» = 0; «plane_mask» = 0 })
+  pub destination-none : DestinationIs s h (record { depth = 0; pad1 = 0; «plane_pick» = 0; «plane_on_off» = 0; «plane_mask» = 0 })
   unfolding destinationIn
   destination-none = record { at = λ q k. rw (nothing-in q k) }
 
-  pub word-none : WordTold s h 0
+  pub word-none : WordIs s h 0
   word-none = record { at = λ q k. rw (nothing-in q k) }
 
-  pub long-none : LongTold s h 0
+  pub long-none : LongIs s h 0
+  unfolding word
   long-none = record { at = λ q k. rw (nothing-in q k) }
 
 -- a picture that is not refused has properties of the right sizes
@@ -126,11 +129,11 @@ none-of false false false true e f i = never i
 none-of false false false false true f i = never i
 none-of false false false false false f i = (refl, refl, refl, refl, i)
 
-sizes-right : (x : Content) → pictureFault x ≡ 0 → wrongSize x ≡ false
-unfolding pictureFault
+sizes-right : (x : Content) → pictureRefusal x ≡ 0 → wrongSize x ≡ false
+unfolding pictureRefusal
 sizes-right x e = go (counts (x .bmhd)) (ltb 1 (length (x .bodies))) (wrongSize x) e
   where
-    go : (a b w : Bool) → pick (not a) 21 (pick b 22 (pick w 23 (headerFault (headerIn (dataOf (x .bmhd))) (ltb 0 (length (x .bodies)))))) ≡ 0 → w ≡ false
+    go : (a b w : Bool) → pick (not a) 21 (pick b 22 (pick w 23 (headerRefusal (headerIn (dataOf (x .bmhd))) (ltb 0 (length (x .bodies)))))) ≡ 0 → w ≡ false
     go true true w e = absurd (omega arith)
     go true false true e = absurd (omega arith)
     go true false false e = refl
@@ -168,8 +171,8 @@ origin-is s h absent k = k .0
 
 pub picture-told :
     (s : List ℕ) (c : Contents) (b : BitmapHeader) (g : HotSpot) (d : Destination) (w m : ℕ) →
-    HeaderTold s (c .bmhd) b → GrabTold s (c .grab) g → DestinationTold s (c .dest) d → WordTold s (c .sprt) w → LongTold s (c .camg) m →
-    PictureTold s c
+    HeaderIs s (c .bmhd) b → GrabIs s (c .grab) g → DestinationIs s (c .dest) d → WordIs s (c .sprt) w → LongIs s (c .camg) m →
+    PictureIs s c
     (record {
       header = b;
       «header_from» = c .bmhd .origin;
@@ -206,8 +209,8 @@ module _ (s : List ℕ) (i : ℕ) (v : View) (w : ViewIs s v (viewOf s i)) where
   pub seen-judged : (c : Contents) → v ≡ Seen c → Judged s c
   seen-judged c j = let x : ViewIs s (Seen c) (viewOf s i) = rw j at w in (x .0, x .2, x .3)
 
-  pub picture-seen : (c : Contents) (r : Picture) → v ≡ Seen c → PictureTold s c r → Shown r ≡ pictureOf s i
+  pub picture-seen : (c : Contents) (r : Picture) → v ≡ Seen c → PictureIs s c r → Shown r ≡ pictureOf s i
   picture-seen c r j k = let x : ViewIs s (Seen c) (viewOf s i) = rw j at w in rw (x .1) (ap Shown (k .at (x .0) (x .2)))
 
-  pub picture-unseen : (k p : ℕ) → v ≡ Unseen k p → Refused k p ≡ pictureOf s i
-  picture-unseen k p j = let x : viewOf s i ≡ unseen k p = rw j at w in rw x
+  pub picture-unseen : (k p : ℕ) → v ≡ View-refused k p → Refused k p ≡ pictureOf s i
+  picture-unseen k p j = let x : viewOf s i ≡ refused k p = rw j at w in rw x

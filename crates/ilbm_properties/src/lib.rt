@@ -16,12 +16,12 @@ use ilbm_find::View;
 use ilbm_find::view_picture;
 ghost use mathlib.Core.Path.{_≡_};
 ghost use Rattle.ilbm_spec.specs.Pictures.{pictureOf};
-ghost use Rattle.ilbm_properties.specs.Told.{OfSize, Judged, HeaderTold, GrabTold, DestinationTold, WordTold, LongTold, PictureTold};
+ghost use Rattle.ilbm_properties.specs.Fields.{OfSize, Judged, HeaderIs, GrabIs, DestinationIs, WordIs, LongIs, PictureIs};
 
 // The fields of BMHD, 0 if it is absent.
 pub fn header_of(s: &[u8], h: Held) -> BitmapHeader
     requires { ⌜ OfSize (now s) h 20 ⌝ }
-    ensures { λ r. ⌜ HeaderTold (now (s .entry)) h r ⌝ }
+    ensures { λ r. ⌜ HeaderIs (now (s .entry)) h r ⌝ }
 {
     let part = h.part;
     match part {
@@ -46,7 +46,7 @@ pub fn header_of(s: &[u8], h: Held) -> BitmapHeader
 
 fn grab_of(s: &[u8], h: Held) -> HotSpot
     requires { ⌜ OfSize (now s) h 4 ⌝ }
-    ensures { λ r. ⌜ GrabTold (now (s .entry)) h r ⌝ }
+    ensures { λ r. ⌜ GrabIs (now (s .entry)) h r ⌝ }
 {
     let part = h.part;
     match part {
@@ -57,7 +57,7 @@ fn grab_of(s: &[u8], h: Held) -> HotSpot
 
 fn destination_of(s: &[u8], h: Held) -> Destination
     requires { ⌜ OfSize (now s) h 8 ⌝ }
-    ensures { λ r. ⌜ DestinationTold (now (s .entry)) h r ⌝ }
+    ensures { λ r. ⌜ DestinationIs (now (s .entry)) h r ⌝ }
 {
     let part = h.part;
     match part {
@@ -74,7 +74,7 @@ fn destination_of(s: &[u8], h: Held) -> Destination
 
 fn word_of(s: &[u8], h: Held) -> u16
     requires { ⌜ OfSize (now s) h 2 ⌝ }
-    ensures { λ r. ⌜ WordTold (now (s .entry)) h r ⌝ }
+    ensures { λ r. ⌜ WordIs (now (s .entry)) h r ⌝ }
 {
     let part = h.part;
     match part {
@@ -85,7 +85,7 @@ fn word_of(s: &[u8], h: Held) -> u16
 
 fn long_of(s: &[u8], h: Held) -> u32
     requires { ⌜ OfSize (now s) h 4 ⌝ }
-    ensures { λ r. ⌜ LongTold (now (s .entry)) h r ⌝ }
+    ensures { λ r. ⌜ LongIs (now (s .entry)) h r ⌝ }
 {
     let part = h.part;
     match part {
@@ -96,7 +96,7 @@ fn long_of(s: &[u8], h: Held) -> u32
 
 fn picture_from(s: &[u8], c: Contents) -> Picture
     requires { ⌜ Judged (now s) c ⌝ }
-    ensures { λ r. ⌜ PictureTold (now (s .entry)) c r ⌝ }
+    ensures { λ r. ⌜ PictureIs (now (s .entry)) c r ⌝ }
 {
     let bmhd = c.bmhd;
     let cmap = c.cmap;
@@ -132,6 +132,6 @@ pub fn picture(s: &[u8], i: usize) -> PictureAnswer
     let v = view_picture(s, i);
     match v {
         View::Seen(c) => PictureAnswer::Shown(picture_from(s, c)),
-        View::Unseen(number, place) => PictureAnswer::Refused { number, place },
+        View::Refused(number, place) => PictureAnswer::Refused { number, place },
     }
 }

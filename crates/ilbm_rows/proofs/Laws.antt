@@ -7,15 +7,16 @@ use Rattle.ilbm_spec.specs.declared.LineAnswer.{LineAnswer}
 use Rattle.ilbm_spec.specs.declared.LineAnswer.the-variants.{Refused}
 use Rattle.ilbm_spec.specs.declared.FrameAnswer.{FrameAnswer}
 use Rattle.ilbm_spec.specs.declared.FrameAnswer.the-variants.{Refused as Frame-refused}
-use Rattle.ilbm_spec.specs.Pictures.{unseen, viewOf}
-use Rattle.ilbm_spec.specs.Rows.{lineAnswer, frameAnswer, written, lineOf, frameOf}
+use Rattle.ilbm_spec.specs.Pictures.{viewOf}
+use Rattle.ilbm_spec.specs.Rows.{lineAnswer, frameAnswer, bytesAfter, lineOf, frameOf}
 use Rattle.ilbm_members.specs.declared.Part.the-variants.{Nothing}
 use Rattle.ilbm_members.specs.Members.{Shows, firstOf}
 use Rattle.ilbm_content.specs.declared.Contents.{Contents}
 use Rattle.ilbm_find.specs.declared.View.{View}
-use Rattle.ilbm_find.specs.declared.View.the-variants.{Seen, Unseen}
+use Rattle.ilbm_find.specs.declared.View.the-variants.{Seen, Refused as View-refused}
 use Rattle.ilbm_find.specs.Seen.{ViewIs}
-use Rattle.ilbm_properties.specs.Told.{Judged}
+use Rattle.ilbm_properties.specs.Fields.{Judged}
+use Rattle.iff_tree.specs.Judge.{refused}
 use Rattle.ilbm_body_rows.specs.Lines.{LineDone, FrameDone}
 
 no-body : (s : List ℕ) (bodies : List (List ℕ)) → Shows s Nothing (firstOf bodies) → bodies ≡ []
@@ -38,24 +39,24 @@ module _ (s : List ℕ) (i : ℕ) (v : View) (w : ViewIs s v (viewOf s i)) where
 
   pub line-seen :
       (c : Contents) (start : ℕ) (old new : List ℕ) (r : LineAnswer) → v ≡ Seen c → LineDone s c start old r new →
-      (r ≡ lineAnswer (lineOf s i start (length old))) × (new ≡ written (lineOf s i start (length old)) old)
+      (r ≡ lineAnswer (lineOf s i start (length old))) × (new ≡ bytesAfter (lineOf s i start (length old)) old)
   line-seen c start old new r j k =
       let x : ViewIs s (Seen c) (viewOf s i) = rw j at w in
-      rw (x .1) (k .told (x .0) (x .2), k .row (x .0) (x .2))
+      rw (x .1) (k .answer (x .0) (x .2), k .row (x .0) (x .2))
 
   pub line-unseen :
-      (f p start : ℕ) (old : List ℕ) → v ≡ Unseen f p →
-      (Refused f p ≡ lineAnswer (lineOf s i start (length old))) × (old ≡ written (lineOf s i start (length old)) old)
-  line-unseen f p start old j = let x : viewOf s i ≡ unseen f p = rw j at w in rw x (refl, refl)
+      (f p start : ℕ) (old : List ℕ) → v ≡ View-refused f p →
+      (Refused f p ≡ lineAnswer (lineOf s i start (length old))) × (old ≡ bytesAfter (lineOf s i start (length old)) old)
+  line-unseen f p start old j = let x : viewOf s i ≡ refused f p = rw j at w in rw x (refl, refl)
 
   pub frame-seen :
       (c : Contents) (old new : List ℕ) (r : FrameAnswer) → v ≡ Seen c → FrameDone s c old r new →
-      (r ≡ frameAnswer (frameOf s i (length old))) × (new ≡ written (frameOf s i (length old)) old)
+      (r ≡ frameAnswer (frameOf s i (length old))) × (new ≡ bytesAfter (frameOf s i (length old)) old)
   frame-seen c old new r j k =
       let x : ViewIs s (Seen c) (viewOf s i) = rw j at w in
-      rw (x .1) (k .told (x .0) (x .2), k .frame (x .0) (x .2))
+      rw (x .1) (k .answer (x .0) (x .2), k .frame (x .0) (x .2))
 
   pub frame-unseen :
-      (f p : ℕ) (old : List ℕ) → v ≡ Unseen f p →
-      (Frame-refused f p ≡ frameAnswer (frameOf s i (length old))) × (old ≡ written (frameOf s i (length old)) old)
-  frame-unseen f p old j = let x : viewOf s i ≡ unseen f p = rw j at w in rw x (refl, refl)
+      (f p : ℕ) (old : List ℕ) → v ≡ View-refused f p →
+      (Frame-refused f p ≡ frameAnswer (frameOf s i (length old))) × (old ≡ bytesAfter (frameOf s i (length old)) old)
+  frame-unseen f p old j = let x : viewOf s i ≡ refused f p = rw j at w in rw x (refl, refl)

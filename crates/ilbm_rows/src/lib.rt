@@ -9,8 +9,8 @@ use ilbm_find::View;
 use ilbm_find::view_picture;
 ghost use mathlib.Core.Path.{_≡_};
 ghost use lib.ListN.{length};
-ghost use Rattle.ilbm_spec.specs.Rows.{lineOf, frameOf, lineAnswer, frameAnswer, written};
-ghost use Rattle.ilbm_properties.specs.Told.{Judged};
+ghost use Rattle.ilbm_spec.specs.Rows.{lineOf, frameOf, lineAnswer, frameAnswer, bytesAfter};
+ghost use Rattle.ilbm_properties.specs.Fields.{Judged};
 ghost use Rattle.ilbm_body_rows.specs.Lines.{LineDone, FrameDone};
 
 // A scan line of a picture that is not refused.
@@ -30,13 +30,13 @@ fn picture_line(s: &[u8], c: Contents, start: usize, row: &mut [u8]) -> LineAnsw
 
 // The colour numbers of a scan line of picture i, from a place of its BODY, and the next place; a refusal leaves the row as it was.
 pub fn scan_line(s: &[u8], i: usize, start: usize, row: &mut [u8]) -> LineAnswer
-    ensures told { λ r. ⌜ r ≡ lineAnswer (lineOf (now (s .entry)) i start (length (now (row .entry)))) ⌝ }
-    ensures bytes { λ _. ⌜ now (row .exit) ≡ written (lineOf (now (s .entry)) i start (length (now (row .entry)))) (now (row .entry)) ⌝ }
+    ensures answer { λ r. ⌜ r ≡ lineAnswer (lineOf (now (s .entry)) i start (length (now (row .entry)))) ⌝ }
+    ensures bytes { λ _. ⌜ now (row .exit) ≡ bytesAfter (lineOf (now (s .entry)) i start (length (now (row .entry)))) (now (row .entry)) ⌝ }
 {
     let v = view_picture(s, i);
     match v {
         View::Seen(c) => picture_line(s, c, start, row),
-        View::Unseen(number, place) => LineAnswer::Refused { number, place },
+        View::Refused(number, place) => LineAnswer::Refused { number, place },
     }
 }
 
@@ -57,12 +57,12 @@ fn picture_frame(s: &[u8], c: Contents, frame: &mut [u8]) -> FrameAnswer
 
 // The colour numbers of all scan lines of picture i, and how many bytes of the BODY are left; a refusal leaves the frame as it was.
 pub fn whole_frame(s: &[u8], i: usize, frame: &mut [u8]) -> FrameAnswer
-    ensures told { λ r. ⌜ r ≡ frameAnswer (frameOf (now (s .entry)) i (length (now (frame .entry)))) ⌝ }
-    ensures bytes { λ _. ⌜ now (frame .exit) ≡ written (frameOf (now (s .entry)) i (length (now (frame .entry)))) (now (frame .entry)) ⌝ }
+    ensures answer { λ r. ⌜ r ≡ frameAnswer (frameOf (now (s .entry)) i (length (now (frame .entry)))) ⌝ }
+    ensures bytes { λ _. ⌜ now (frame .exit) ≡ bytesAfter (frameOf (now (s .entry)) i (length (now (frame .entry)))) (now (frame .entry)) ⌝ }
 {
     let v = view_picture(s, i);
     match v {
         View::Seen(c) => picture_frame(s, c, frame),
-        View::Unseen(number, place) => FrameAnswer::Refused { number, place },
+        View::Refused(number, place) => FrameAnswer::Refused { number, place },
     }
 }

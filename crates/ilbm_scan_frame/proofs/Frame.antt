@@ -8,59 +8,60 @@ use mir.Syntax.{w64}
 use mir.Val.{Fits}
 use native.Mathlib.Nat.{zero-mul, suc-mul, add-mul, one-mul, mul-comm, mul-le-mul-left}
 use native.Mathlib.Omega.{arith}
-use Rattle.ilbm_spec.specs.Rows.{rowLength, Read, read, fault, thenRead, rowRead, rowsFrom, coloursFrom, written}
+use Rattle.ilbm_spec.specs.Rows.{rowLength, Read, thenRead, rowRead, rowsFrom, coloursFrom, bytesAfter}
 use Rattle.byterun_row.specs.ByteRun.{rowOf}
 use Rattle.ilbm_gather.proofs.Colours.{row-room}
-use Rattle.ilbm_plane_rows.specs.Scan.{told, IsRead, lineBy, linesBy}
+use Rattle.ilbm_plane_rows.specs.Scan.{scannedOf, IsRead, lineBy, linesBy}
 use Rattle.ilbm_plane_rows.specs.declared.Scanned.{Scanned}
-use Rattle.ilbm_plane_rows.specs.declared.Scanned.the-variants.{Next, Fault}
-use Rattle.ilbm_plane_rows.proofs.Judging.{onward, told-onward, told-next, told-read, told-fault}
+use Rattle.ilbm_plane_rows.specs.declared.Scanned.the-variants.{Next, Refused as Scanned-refused}
+use Rattle.iff_tree.specs.Judge.{found, refused}
+use Rattle.ilbm_plane_rows.proofs.Judging.{onward, told-onward, told-next, told-read, told-refusal}
 
 -- a + b rows are a rows, and then b
 rows-add :
     (compression : ℕ) (body : List ℕ) (n a b at : ℕ) →
-    told (rowsFrom compression body n (a + b) at) ≡ told (thenRead (rowsFrom compression body n a at) (λ rs q. rowsFrom compression body n b q))
+    scannedOf (rowsFrom compression body n (a + b) at) ≡ scannedOf (thenRead (rowsFrom compression body n a at) (λ rs q. rowsFrom compression body n b q))
 unfolding rowsFrom
 rows-add compression body n zero b at = let e : 0 + b ≡ b = omega arith in rw e
 rows-add compression body n (suc a) b at =
     let e : suc a + b ≡ suc (a + b) = omega arith in
     rw e (go (λ q. rows-add compression body n a b q) (rowRead (rowOf compression body at n)))
   where
-    past : (bs : List ℕ) (v : Read (List (List ℕ))) → told (thenRead (onward bs v) (λ rs q. rowsFrom compression body n b q)) ≡ told (thenRead v (λ rs q. rowsFrom compression body n b q))
-    past bs (read rs q) = refl
-    past bs (fault k p) = refl
+    past : (bs : List ℕ) (v : Read (List (List ℕ))) → scannedOf (thenRead (onward bs v) (λ rs q. rowsFrom compression body n b q)) ≡ scannedOf (thenRead v (λ rs q. rowsFrom compression body n b q))
+    past bs (found (rs, q)) = refl
+    past bs (refused k p) = refl
 
     go :
-        ((q : ℕ) → told (rowsFrom compression body n (a + b) q) ≡ told (thenRead (rowsFrom compression body n a q) (λ rs q. rowsFrom compression body n b q))) →
+        ((q : ℕ) → scannedOf (rowsFrom compression body n (a + b) q) ≡ scannedOf (thenRead (rowsFrom compression body n a q) (λ rs q. rowsFrom compression body n b q))) →
         (v : Read (List ℕ)) →
-        told (thenRead v (λ bs q. onward bs (rowsFrom compression body n (a + b) q)))
-        ≡ told (thenRead (thenRead v (λ bs q. onward bs (rowsFrom compression body n a q))) (λ rs q. rowsFrom compression body n b q))
-    go ih (read bs q) = told-onward bs (rowsFrom compression body n (a + b) q) ∙ ih q ∙ sym (past bs (rowsFrom compression body n a q))
-    go ih (fault k p) = refl
+        scannedOf (thenRead v (λ bs q. onward bs (rowsFrom compression body n (a + b) q)))
+        ≡ scannedOf (thenRead (thenRead v (λ bs q. onward bs (rowsFrom compression body n a q))) (λ rs q. rowsFrom compression body n b q))
+    go ih (found (bs, q)) = told-onward bs (rowsFrom compression body n (a + b) q) ∙ ih q ∙ sym (past bs (rowsFrom compression body n a q))
+    go ih (refused k p) = refl
 
 module _ (compression w planes rows : ℕ) (body : List ℕ) where
   -- the lines from a place are told of as their rows are
-  lines-told : (h at : ℕ) → told (rowsFrom compression body (rowLength w) (h * rows) at) ≡ told (linesBy compression w planes rows body h at)
+  lines-told : (h at : ℕ) → scannedOf (rowsFrom compression body (rowLength w) (h * rows) at) ≡ scannedOf (linesBy compression w planes rows body h at)
   unfolding rowsFrom linesBy
   lines-told zero at = rw (zero-mul rows)
   lines-told (suc h) at =
       let e : suc h * rows ≡ rows + h * rows = omega (arith, suc-mul h rows) in
       rw e (rows-add compression body (rowLength w) rows (h * rows) at ∙ go (λ q. lines-told h q) (rowsFrom compression body (rowLength w) rows at))
     where
-      past : (cs : List ℕ) (v : Read (List ℕ)) → told v ≡ told (thenRead v (λ rest r. read (cs ++ rest) r))
-      past cs (read rest r) = refl
-      past cs (fault k p) = refl
+      past : (cs : List ℕ) (v : Read (List ℕ)) → scannedOf v ≡ scannedOf (thenRead v (λ rest r. found ((cs ++ rest), r)))
+      past cs (found (rest, r)) = refl
+      past cs (refused k p) = refl
 
       go :
-          ((q : ℕ) → told (rowsFrom compression body (rowLength w) (h * rows) q) ≡ told (linesBy compression w planes rows body h q)) → (v : Read (List (List ℕ))) →
-          told (thenRead v (λ rs q. rowsFrom compression body (rowLength w) (h * rows) q))
-          ≡ told (thenRead (thenRead v (λ rs q. read (coloursFrom 0 w (take planes rs)) q)) (λ cs q. thenRead (linesBy compression w planes rows body h q) (λ rest r. read (cs ++ rest) r)))
-      go ih (read rs q) = ih q ∙ past (coloursFrom 0 w (take planes rs)) (linesBy compression w planes rows body h q)
-      go ih (fault k p) = refl
+          ((q : ℕ) → scannedOf (rowsFrom compression body (rowLength w) (h * rows) q) ≡ scannedOf (linesBy compression w planes rows body h q)) → (v : Read (List (List ℕ))) →
+          scannedOf (thenRead v (λ rs q. rowsFrom compression body (rowLength w) (h * rows) q))
+          ≡ scannedOf (thenRead (thenRead v (λ rs q. found ((coloursFrom 0 w (take planes rs)), q))) (λ cs q. thenRead (linesBy compression w planes rows body h q) (λ rest r. found ((cs ++ rest), r))))
+      go ih (found (rs, q)) = ih q ∙ past (coloursFrom 0 w (take planes rs)) (linesBy compression w planes rows body h q)
+      go ih (refused k p) = refl
 
   -- what was judged of a frame's rows
-  module _ (h n : ℕ) (e : n ≡ rowLength w) (r : Scanned) (j : r ≡ told (rowsFrom compression body n (h * rows) 0)) where
-    frame-told : r ≡ told (linesBy compression w planes rows body h 0)
+  module _ (h n : ℕ) (e : n ≡ rowLength w) (r : Scanned) (j : r ≡ scannedOf (rowsFrom compression body n (h * rows) 0)) where
+    frame-told : r ≡ scannedOf (linesBy compression w planes rows body h 0)
     frame-told = rw e at j ∙ lines-told h 0
 
     pub frame-judged : (q : ℕ) → r ≡ Next q → IsRead (linesBy compression w planes rows body h 0)
@@ -68,24 +69,24 @@ module _ (compression w planes rows : ℕ) (body : List ℕ) where
 
     module _ (m : ℕ) (c : rows ≡ m) (old : List ℕ) where
       pub frame-read :
-          (new : List ℕ) (q p : ℕ) → r ≡ Next q → linesBy compression w planes rows body h 0 ≡ read new p →
-          (Next q ≡ told (linesBy compression w planes m body h 0)) × (new ≡ written (linesBy compression w planes m body h 0) old)
+          (new : List ℕ) (q p : ℕ) → r ≡ Next q → linesBy compression w planes rows body h 0 ≡ found (new, p) →
+          (Next q ≡ scannedOf (linesBy compression w planes m body h 0)) × (new ≡ bytesAfter (linesBy compression w planes m body h 0) old)
       frame-read new q p d i = rw (← c) (told-read (linesBy compression w planes rows body h 0) r frame-told old new q p d i)
 
-      pub frame-fault :
-          (k p : ℕ) → r ≡ Fault k p →
-          (Fault k p ≡ told (linesBy compression w planes m body h 0)) × (old ≡ written (linesBy compression w planes m body h 0) old)
-      frame-fault k p d = rw (← c) (told-fault (linesBy compression w planes rows body h 0) r frame-told old k p d)
+      pub frame-refusal :
+          (k p : ℕ) → r ≡ Scanned-refused k p →
+          (Scanned-refused k p ≡ scannedOf (linesBy compression w planes m body h 0)) × (old ≡ bytesAfter (linesBy compression w planes m body h 0) old)
+      frame-refusal k p d = rw (← c) (told-refusal (linesBy compression w planes rows body h 0) r frame-told old k p d)
 
   -- where lines are left, the first of them is read, and then the others
   lines-once :
       (h y q : ℕ) → y < h →
       linesBy compression w planes rows body (h - y) q
-      ≡ thenRead (lineBy compression w planes rows body q) (λ cs p. thenRead (linesBy compression w planes rows body (h - (y + 1)) p) (λ rest r. read (cs ++ rest) r))
+      ≡ thenRead (lineBy compression w planes rows body q) (λ cs p. thenRead (linesBy compression w planes rows body (h - (y + 1)) p) (λ rest r. found ((cs ++ rest), r)))
   unfolding linesBy
   lines-once h y q l = let e : h - y ≡ suc (h - (y + 1)) = omega arith in rw e
 
-  lines-none : (h y q : ℕ) → h ≤ y → linesBy compression w planes rows body (h - y) q ≡ read [] q
+  lines-none : (h y q : ℕ) → h ≤ y → linesBy compression w planes rows body (h - y) q ≡ found ([], q)
   unfolding linesBy
   lines-none h y q l = let e : h - y ≡ 0 = omega arith in rw e
 
@@ -93,8 +94,8 @@ module _ (compression w planes rows : ℕ) (body : List ℕ) where
 pub record Drawn (compression w planes rows : ℕ) (body : List ℕ) (h y q : ℕ) (frame : List ℕ) : Type 0 where
   pub left : List ℕ
   pub end : ℕ
-  pub to-come : linesBy compression w planes rows body (h - y) q ≡ read left end
-  pub whole : linesBy compression w planes rows body h 0 ≡ read (take (y * w) frame ++ left) end
+  pub to-come : linesBy compression w planes rows body (h - y) q ≡ found (left, end)
+  pub whole : linesBy compression w planes rows body h 0 ≡ found ((take (y * w) frame ++ left), end)
 
 -- the number of a frame's rows
 pub frame-rows-fit : (h rows : ℕ) → h ≤ 65535 → rows ≤ 9 → Fits w64 (h * rows)
@@ -117,14 +118,14 @@ module _ (compression w planes rows : ℕ) (body : List ℕ) (h : ℕ) where
   drawn-start frame i = go (linesBy compression w planes rows body h 0) refl i
     where
       go : (v : Read (List ℕ)) → linesBy compression w planes rows body h 0 ≡ v → IsRead v → Drawn compression w planes rows body h 0 0 frame
-      go (read cs p) e i = let z : h - 0 ≡ h = omega arith in record { left = cs; end = p; to-come = rw z e; whole = rw (zero-mul w) e }
-      go (fault k p) e i = absurd i
+      go (found (cs, p)) e i = let z : h - 0 ≡ h = omega arith in record { left = cs; end = p; to-come = rw z e; whole = rw (zero-mul w) e }
+      go (refused k p) e i = absurd i
 
   module _ (y q : ℕ) (frame : List ℕ) (d : Drawn compression w planes rows body h y q frame) where
     module _ (l : y < h) where
       first :
-          thenRead (lineBy compression w planes rows body q) (λ cs p. thenRead (linesBy compression w planes rows body (h - (y + 1)) p) (λ rest r. read (cs ++ rest) r))
-          ≡ read (d .left) (d .end)
+          thenRead (lineBy compression w planes rows body q) (λ cs p. thenRead (linesBy compression w planes rows body (h - (y + 1)) p) (λ rest r. found ((cs ++ rest), r)))
+          ≡ found ((d .left), (d .end))
       first = rw (lines-once compression w planes rows body h y q l) at (d .to-come)
 
       pub drawn-line : IsRead (rowsFrom compression body (rowLength w) rows q)
@@ -132,13 +133,13 @@ module _ (compression w planes rows : ℕ) (body : List ℕ) (h : ℕ) where
         where
           go :
               (v : Read (List (List ℕ))) →
-              thenRead (thenRead v (λ rs q. read (coloursFrom 0 w (take planes rs)) q)) (λ cs p. thenRead (linesBy compression w planes rows body (h - (y + 1)) p) (λ rest r. read (cs ++ rest) r))
-              ≡ read (d .left) (d .end) → IsRead v
-          go (read rs s) f = tt
-          go (fault k p) f = let z : _≡_ {A = ℕ} 0 1 = cc in absurd (omega arith)
+              thenRead (thenRead v (λ rs q. found ((coloursFrom 0 w (take planes rs)), q))) (λ cs p. thenRead (linesBy compression w planes rows body (h - (y + 1)) p) (λ rest r. found ((cs ++ rest), r)))
+              ≡ found ((d .left), (d .end)) → IsRead v
+          go (found (rs, s)) f = tt
+          go (refused k p) f = let z : _≡_ {A = ℕ} 0 1 = cc in absurd (omega arith)
 
       pub drawn-more :
-          (p : ℕ) (new tail : List ℕ) → y * w + w ≤ length frame → length new ≡ w → lineBy compression w planes rows body q ≡ read new p →
+          (p : ℕ) (new tail : List ℕ) → y * w + w ≤ length frame → length new ≡ w → lineBy compression w planes rows body q ≡ found (new, p) →
           Drawn compression w planes rows body h (y + 1) p (take (y * w) frame ++ (new ++ tail))
       drawn-more p new tail m n i = go (linesBy compression w planes rows body (h - (y + 1)) p) refl (rw i at first)
         where
@@ -149,9 +150,9 @@ module _ (compression w planes rows : ℕ) (body : List ℕ) (h : ℕ) where
               ap (λ (xs : List ℕ). take ((y + 1) * w) xs) (sym (append-assoc (take (y * w) frame) new tail)) ∙ take-at (take (y * w) frame ++ new) tail ((y + 1) * w) b
 
           go :
-              (v : Read (List ℕ)) → linesBy compression w planes rows body (h - (y + 1)) p ≡ v → thenRead v (λ rest r. read (new ++ rest) r) ≡ read (d .left) (d .end) →
+              (v : Read (List ℕ)) → linesBy compression w planes rows body (h - (y + 1)) p ≡ v → thenRead v (λ rest r. found ((new ++ rest), r)) ≡ found ((d .left), (d .end)) →
               Drawn compression w planes rows body h (y + 1) p (take (y * w) frame ++ (new ++ tail))
-          go (read rest r) u f =
+          go (found (rest, r)) u f =
               let x : d .left ≡ new ++ rest = cc in
               let z : d .end ≡ r = cc in
               record {
@@ -160,16 +161,16 @@ module _ (compression w planes rows : ℕ) (body : List ℕ) (h : ℕ) where
                 to-come = u;
                 whole = rw (so-far, append-assoc (take (y * w) frame) new rest) (rw (x, z) at (d .whole));
               }
-          go (fault k s) u f = let z : _≡_ {A = ℕ} 0 1 = cc in absurd (omega arith)
+          go (refused k s) u f = let z : _≡_ {A = ℕ} 0 1 = cc in absurd (omega arith)
 
-    pub drawn-end : y ≤ h → h ≤ y → length frame ≡ w * h → linesBy compression w planes rows body h 0 ≡ read frame q
+    pub drawn-end : y ≤ h → h ≤ y → length frame ≡ w * h → linesBy compression w planes rows body h 0 ≡ found (frame, q)
     drawn-end a b l =
-        let none : read [] q ≡ read (d .left) (d .end) = rw (lines-none compression w planes rows body h y q b) at (d .to-come) in
+        let none : read [] q ≡ found ((d .left), (d .end)) = rw (lines-none compression w planes rows body h y q b) at (d .to-come) in
         let x : d .left ≡ [] = cc in
         let z : d .end ≡ q = cc in
         let e : y ≡ h = omega arith in
         let u : length frame ≤ y * w = rw e (omega (arith, mul-comm w h)) in
-        let v : linesBy compression w planes rows body h 0 ≡ read (take (y * w) frame ++ []) q = rw (x, z) at (d .whole) in
+        let v : linesBy compression w planes rows body h 0 ≡ found ((take (y * w) frame ++ []), q) = rw (x, z) at (d .whole) in
         v ∙ rw (append-nil (take (y * w) frame), take-all (y * w) frame u)
 
 pub ruleset drawing = (drawn-start, drawn-line, drawn-end, line-inside, line-from-fits, line-to-fits, frame-judged)

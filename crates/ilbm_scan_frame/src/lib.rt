@@ -8,8 +8,9 @@ ghost use mathlib.Core.Path.{_≡_};
 ghost use Prim.Native.Nat.{_+_, _*_, _≤_};
 ghost use lib.ListN.{length};
 ghost use Rattle.iff_name.specs.Name.{pick};
-ghost use Rattle.ilbm_spec.specs.Rows.{rowLength, read, written};
-ghost use Rattle.ilbm_plane_rows.specs.Scan.{told, IsRead, linesBy};
+ghost use Rattle.iff_tree.specs.Judge.{found};
+ghost use Rattle.ilbm_spec.specs.Rows.{rowLength, bytesAfter};
+ghost use Rattle.ilbm_plane_rows.specs.Scan.{scannedOf, IsRead, linesBy};
 
 // Writes scan lines that are known to be sound, one after the other, and returns the place after them.
 fn write_lines(
@@ -25,7 +26,7 @@ fn write_lines(
     requires { ⌜ (w ≤ 65535) × (planes ≤ 8) × (planes ≤ rows) ⌝ }
     requires { ⌜ (rows * rowLength w ≤ length (now buffer)) × (length (now frame) ≡ w * h) ⌝ }
     requires { ⌜ IsRead (linesBy compression w planes rows (now body) h 0) ⌝ }
-    ensures { λ r. ⌜ linesBy compression w planes rows (now (body .entry)) h 0 ≡ read (now (frame .exit)) r ⌝ }
+    ensures { λ r. ⌜ linesBy compression w planes rows (now (body .entry)) h 0 ≡ found ((now (frame .exit)), r) ⌝ }
 {
     let mut q = 0;
     let mut y = 0;
@@ -59,8 +60,8 @@ pub fn scan_frame(
 ) -> Scanned
     requires { ⌜ (w ≤ 65535) × (h ≤ 65535) × (planes ≤ 8) ⌝ }
     requires { ⌜ length (now frame) ≡ w * h ⌝ }
-    ensures is { λ r. ⌜ r ≡ told (linesBy compression w planes (planes + pick masked 1 0) (now (body .entry)) h 0) ⌝ }
-    ensures bytes { λ _. ⌜ now (frame .exit) ≡ written (linesBy compression w planes (planes + pick masked 1 0) (now (body .entry)) h 0) (now (frame .entry)) ⌝ }
+    ensures is { λ r. ⌜ r ≡ scannedOf (linesBy compression w planes (planes + pick masked 1 0) (now (body .entry)) h 0) ⌝ }
+    ensures bytes { λ _. ⌜ now (frame .exit) ≡ bytesAfter (linesBy compression w planes (planes + pick masked 1 0) (now (body .entry)) h 0) (now (frame .entry)) ⌝ }
 {
     let n = row_length(w);
     let rows = row_count(planes, masked);
@@ -71,6 +72,6 @@ pub fn scan_frame(
             write_lines(body, w, h, planes, rows, compression, &mut buffer, frame);
             Scanned::Next(end)
         }
-        Scanned::Fault { number, place } => Scanned::Fault { number, place },
+        Scanned::Refused { number, place } => Scanned::Refused { number, place },
     }
 }

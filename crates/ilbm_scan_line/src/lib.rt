@@ -8,8 +8,8 @@ ghost use mathlib.Core.Path.{_≡_};
 ghost use Prim.Native.Nat.{_+_, _*_, _≤_};
 ghost use lib.ListN.{length};
 ghost use Rattle.iff_name.specs.Name.{pick};
-ghost use Rattle.ilbm_spec.specs.Rows.{rowLength, written};
-ghost use Rattle.ilbm_plane_rows.specs.Scan.{told, lineBy};
+ghost use Rattle.ilbm_spec.specs.Rows.{rowLength, bytesAfter};
+ghost use Rattle.ilbm_plane_rows.specs.Scan.{scannedOf, lineBy};
 
 // A scan line, by way of a buffer that has room for its plane rows.
 fn scan_row_in(
@@ -24,8 +24,8 @@ fn scan_row_in(
 ) -> Scanned
     requires { ⌜ (w ≤ 65535) × (planes ≤ 8) ⌝ }
     requires { ⌜ ((planes + pick masked 1 0) * rowLength w ≤ length (now buffer)) × (length (now row) ≡ w) ⌝ }
-    ensures is { λ r. ⌜ r ≡ told (lineBy compression w planes (planes + pick masked 1 0) (now (body .entry)) at) ⌝ }
-    ensures bytes { λ _. ⌜ now (row .exit) ≡ written (lineBy compression w planes (planes + pick masked 1 0) (now (body .entry)) at) (now (row .entry)) ⌝ }
+    ensures is { λ r. ⌜ r ≡ scannedOf (lineBy compression w planes (planes + pick masked 1 0) (now (body .entry)) at) ⌝ }
+    ensures bytes { λ _. ⌜ now (row .exit) ≡ bytesAfter (lineBy compression w planes (planes + pick masked 1 0) (now (body .entry)) at) (now (row .entry)) ⌝ }
 {
     let n = row_length(w);
     let rows = row_count(planes, masked);
@@ -35,7 +35,7 @@ fn scan_row_in(
             write_line(body, at, w, planes, rows, compression, buffer, row);
             Scanned::Next(next)
         }
-        Scanned::Fault { number, place } => Scanned::Fault { number, place },
+        Scanned::Refused { number, place } => Scanned::Refused { number, place },
     }
 }
 
@@ -51,8 +51,8 @@ pub fn scan_row(
 ) -> Scanned
     requires { ⌜ (w ≤ 65535) × (planes ≤ 8) ⌝ }
     requires { ⌜ length (now row) ≡ w ⌝ }
-    ensures is { λ r. ⌜ r ≡ told (lineBy compression w planes (planes + pick masked 1 0) (now (body .entry)) at) ⌝ }
-    ensures bytes { λ _. ⌜ now (row .exit) ≡ written (lineBy compression w planes (planes + pick masked 1 0) (now (body .entry)) at) (now (row .entry)) ⌝ }
+    ensures is { λ r. ⌜ r ≡ scannedOf (lineBy compression w planes (planes + pick masked 1 0) (now (body .entry)) at) ⌝ }
+    ensures bytes { λ _. ⌜ now (row .exit) ≡ bytesAfter (lineBy compression w planes (planes + pick masked 1 0) (now (body .entry)) at) (now (row .entry)) ⌝ }
 {
     if w <= 4096 {
         let mut buffer = [0u8; 4608];

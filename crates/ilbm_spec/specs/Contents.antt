@@ -4,42 +4,10 @@ use mathlib.Core.List.{List, [], _∷_, _++_}
 use mathlib.Core.Option.{Option, some, none as nothing}
 use lib.Dec.{eqb}
 use lib.ListN.{length}
-use Rattle.iff_name.specs.Name.{both, pick}
+use Rattle.iff_name.specs.Name.{pick}
+use Rattle.iff_name.specs.Codes.{LIST}
 use Rattle.iff_chunk.specs.Chunks.{Chunks, none, leaf, group, Chunk, before, bytes}
-
--- the names that matter in a picture
-abbrev pub FORM : ℕ
-FORM = 0x464F524D
-
-abbrev pub LIST : ℕ
-LIST = 0x4C495354
-
-abbrev pub PROP : ℕ
-PROP = 0x50524F50
-
-abbrev pub ILBM : ℕ
-ILBM = 0x494C424D
-
-abbrev pub BMHD : ℕ
-BMHD = 0x424D4844
-
-abbrev pub CMAP : ℕ
-CMAP = 0x434D4150
-
-abbrev pub GRAB : ℕ
-GRAB = 0x47524142
-
-abbrev pub DEST : ℕ
-DEST = 0x44455354
-
-abbrev pub SPRT : ℕ
-SPRT = 0x53505254
-
-abbrev pub CAMG : ℕ
-CAMG = 0x43414D47
-
-abbrev pub BODY : ℕ
-BODY = 0x424F4459
+use Rattle.ilbm_spec.specs.Names.{BMHD, CMAP, GRAB, DEST, SPRT, CAMG, BODY, isPicture, isSharedProp}
 
 -- "One counts if it stands directly in the FORM before the first BODY (anywhere, if there is no BODY); of several, the last."
 -- The data of the last chunk of this name so far, and then among the members.
@@ -64,7 +32,7 @@ unfoldable pub propAmong : ℕ → Chunks → List SharedProp
 propAmong p none = []
 propAmong p (leaf n d pad F) = propAmong (p + (8 + length d + length pad)) F
 propAmong p (group n t G F) =
-    pick (both (eqb n PROP) (eqb t ILBM)) (record { place = p; members = G } ∷ []) (propAmong (p + (12 + length (bytes G))) F)
+    pick (isSharedProp n t) (record { place = p; members = G } ∷ []) (propAmong (p + (12 + length (bytes G))) F)
 
 -- The PROPs ILBM of the enclosing LISTs, the nearest first, for the members of a group of this name at p.
 abbrev pub scopeInside : ℕ → ℕ → Chunks → List SharedProp → List SharedProp
@@ -123,7 +91,7 @@ unfoldable pub contentsFrom : ℕ → List SharedProp → Chunks → List Conten
 contentsFrom p scope none = []
 contentsFrom p scope (leaf n d pad F) = contentsFrom (p + (8 + length d + length pad)) scope F
 contentsFrom p scope (group n t G F) =
-    pick (both (eqb n FORM) (eqb t ILBM)) (contentOf G scope ∷ []) [] ++
+    pick (isPicture n t) (contentOf G scope ∷ []) [] ++
     (contentsFrom (p + 12) (scopeInside n p G scope) G ++ contentsFrom (p + (12 + length (bytes G))) scope F)
 
 abbrev pub contentsOf : Chunk → List Content

@@ -1,10 +1,11 @@
 -- 01 "The palette": what the palette call tells.
 use Prim.Native.Nat.{ℕ, _+_}
-use mathlib.Core.Path.{_≡_, refl}
 use mathlib.Core.List.{List, []}
-use Rattle.ilbm_spec.specs.Contents.{CMAP, Property, own, shared, absent}
+use Rattle.ilbm_spec.specs.Names.{CMAP}
+use Rattle.ilbm_spec.specs.Contents.{Property, own, shared, absent}
 use Rattle.ilbm_spec.specs.Places.{placeOf}
-use Rattle.ilbm_spec.specs.Pictures.{Viewed, viewed, unseen, viewOf, paletteFrom, paletteBytes}
+use Rattle.iff_tree.specs.Judge.{found, refused}
+use Rattle.ilbm_spec.specs.Pictures.{Viewed, viewOf, paletteFrom}
 
 -- 0 and 0, or the number and place of a refusal; and the colours
 pub record Answer : Type 0 where
@@ -14,16 +15,11 @@ pub record Answer : Type 0 where
 
 -- "the CMAP that counts, or the caller's own default where none counts"; "after any refusal, an empty part"
 abbrev pub answerIn : Viewed → List ℕ → Answer
-answerIn (viewed c) default = record { number = 0; place = 0; colours = paletteFrom (c .cmap) default }
-answerIn (unseen k p) default = record { number = k; place = p; colours = [] }
+answerIn (found c) default = record { number = 0; place = 0; colours = paletteFrom (c .cmap) default }
+answerIn (refused k p) default = record { number = k; place = p; colours = [] }
 
 abbrev pub paletteAnswer : List ℕ → ℕ → List ℕ → Answer
 paletteAnswer s i default = answerIn (viewOf s i) default
-
--- these colours are the palette of Pictures
-pub same-colours : (v : Viewed) (default : List ℕ) → answerIn v default .colours ≡ paletteBytes v default
-same-colours (viewed c) default = refl
-same-colours (unseen k p) default = refl
 
 -- "handed back as a part of the slice it came from": the file from a place on, or the default. After a refusal, the file from 0 on.
 pub data Source : Type 0 where
@@ -36,8 +32,8 @@ sourceFrom (shared q d) p = inFile p
 sourceFrom absent p = inDefault
 
 abbrev pub sourceIn : Viewed → ℕ → Source
-sourceIn (viewed c) p = sourceFrom (c .cmap) p
-sourceIn (unseen k q) p = inFile 0
+sourceIn (found c) p = sourceFrom (c .cmap) p
+sourceIn (refused k q) p = inFile 0
 
 abbrev pub paletteSource : List ℕ → ℕ → Source
 paletteSource s i = sourceIn (viewOf s i) (placeOf s i CMAP)

@@ -6,7 +6,7 @@ use lib.Dec.{ltb, eqb}
 use lib.IntN.{ℤ, pos, negsuc}
 use lib.ListN.{length, getD}
 use Rattle.iff_name.specs.Name.{both, either, pick}
-use Rattle.iff_chunk.specs.Chunks.{Chunk}
+use Rattle.iff_chunk.specs.Chunks.{Chunk, word}
 use Rattle.iff_tree.specs.Judge.{Found, found, refused, readFile}
 use Rattle.ilbm_spec.specs.declared.Origin.{Origin}
 use Rattle.ilbm_spec.specs.declared.Origin.the-variants.{Own, Shared, Absent}
@@ -18,12 +18,9 @@ use Rattle.ilbm_spec.specs.declared.PictureAnswer.{PictureAnswer}
 use Rattle.ilbm_spec.specs.declared.PictureAnswer.the-variants.{Shown, Refused}
 use Rattle.ilbm_spec.specs.Contents.{Property, own, shared, absent, Content, contentsOf}
 
--- a big-endian number of two bytes, and of four, in a chunk's data
+-- a big-endian number of two bytes in a chunk's data
 abbrev pub u16 : List ℕ → ℕ → ℕ
 u16 d i = getD d i 0 * 256 + getD d (i + 1) 0
-
-abbrev pub u32 : List ℕ → ℕ → ℕ
-u32 d i = getD d i 0 * 16777216 + getD d (i + 1) 0 * 65536 + getD d (i + 2) 0 * 256 + getD d (i + 3) 0
 
 -- a 16-bit number read as signed: v, or v - 65536 from 32768 on
 abbrev pub signed : ℕ → ℤ
@@ -90,8 +87,8 @@ wrongSize c =
     (either (sizeNot 2 (c .sprt)) (sizeNot 4 (c .camg))))))
 
 -- 24: "nPlanes over 8, masking over 3, compression over 1, or a BODY with w, h or nPlanes 0". The number, or 0.
-unfoldable pub headerFault : BitmapHeader → Bool → ℕ
-headerFault b hasBody =
+unfoldable pub headerRefusal : BitmapHeader → Bool → ℕ
+headerRefusal b hasBody =
     pick (ltb 8 (b .planes)) 24
     (pick (ltb 3 (b .masking)) 24
     (pick (ltb 1 (b .compression)) 24
@@ -99,30 +96,29 @@ headerFault b hasBody =
     0)))
 
 -- 21 to 24 in their order: the number, or 0.
-unfoldable pub pictureFault : Content → ℕ
-pictureFault c =
+unfoldable pub pictureRefusal : Content → ℕ
+pictureRefusal c =
     pick (not (counts (c .bmhd))) 21
     (pick (ltb 1 (length (c .bodies))) 22
     (pick (wrongSize c) 23
-    (headerFault (headerIn (dataOf (c .bmhd))) (ltb 0 (length (c .bodies))))))
+    (headerRefusal (headerIn (dataOf (c .bmhd))) (ltb 0 (length (c .bodies))))))
 
 -- A picture that is not refused, or the refusal.
-pub data Viewed : Type 0 where
-  viewed : Content → Viewed
-  unseen : ℕ → ℕ → Viewed
+abbrev pub Viewed : Type 0
+Viewed = Found Content
 
 abbrev pub judged : Content → Viewed
-judged c = pick (eqb (pictureFault c) 0) (viewed c) (unseen (pictureFault c) 0)
+judged c = pick (eqb (pictureRefusal c) 0) (found c) (refused (pictureRefusal c) 0)
 
 -- the picture of number i in a list; 20: "no such picture"
 unfoldable pub pickContent : List Content → ℕ → Viewed
-pickContent [] i = unseen 20 0
+pickContent [] i = refused 20 0
 pickContent (c ∷ cs) zero = judged c
 pickContent (c ∷ cs) (suc i) = pickContent cs i
 
 abbrev pub viewIn : Found Chunk → ℕ → Viewed
 viewIn (found c) i = pickContent (contentsOf c) i
-viewIn (refused k p) i = unseen k p
+viewIn (refused k p) i = refused k p
 
 -- The picture of number i in a file: "After the structure refusals, in this order", 20 to 24.
 abbrev pub viewOf : List ℕ → ℕ → Viewed
@@ -141,13 +137,13 @@ pictureFrom c =
       «destination_from» = originOf (c .dest);
       sprite = u16 (dataOf (c .sprt)) 0;
       «sprite_from» = originOf (c .sprt);
-      «view_mode» = u32 (dataOf (c .camg)) 0;
+      «view_mode» = word (dataOf (c .camg)) 0;
       «view_mode_from» = originOf (c .camg);
     }
 
 abbrev pub pictureAnswer : Viewed → PictureAnswer
-pictureAnswer (viewed c) = Shown (pictureFrom c)
-pictureAnswer (unseen k p) = Refused k p
+pictureAnswer (found c) = Shown (pictureFrom c)
+pictureAnswer (refused k p) = Refused k p
 
 abbrev pub pictureOf : List ℕ → ℕ → PictureAnswer
 pictureOf s i = pictureAnswer (viewOf s i)
@@ -159,8 +155,8 @@ paletteFrom (shared p d) default = d
 paletteFrom absent default = default
 
 abbrev pub paletteBytes : Viewed → List ℕ → List ℕ
-paletteBytes (viewed c) default = paletteFrom (c .cmap) default
-paletteBytes (unseen k p) default = []
+paletteBytes (found c) default = paletteFrom (c .cmap) default
+paletteBytes (refused k p) default = []
 
 abbrev pub paletteOf : List ℕ → ℕ → List ℕ → List ℕ
 paletteOf s i default = paletteBytes (viewOf s i) default

@@ -1,8 +1,6 @@
 -- 01 "Pictures": where the pictures stand, and where the data of each property that counts begins: "handed back as a part of the slice
 -- it came from". The choices are those of Contents, told as places; data begins 8 after its chunk's place.
 use Prim.Native.Nat.{ℕ, zero, suc, _+_}
-use mathlib.Core.Path.{_≡_, refl, ap, _∙_}
-use mathlib.Core.Bool.{Bool, true, false}
 use mathlib.Core.List.{List, [], _∷_, _++_}
 use mathlib.Core.Option.{Option, some, none as nothing}
 use lib.Dec.{eqb}
@@ -10,7 +8,9 @@ use lib.ListN.{length}
 use Rattle.iff_name.specs.Name.{both, pick}
 use Rattle.iff_chunk.specs.Chunks.{Chunks, none, leaf, group, Chunk, before, bytes}
 use Rattle.iff_tree.specs.Judge.{Found, found, refused, readFile}
-use Rattle.ilbm_spec.specs.Contents.{FORM, ILBM, BODY, SharedProp, scopeInside, Content, contentOf, contentsFrom}
+use Rattle.iff_name.specs.Codes.{FORM}
+use Rattle.ilbm_spec.specs.Names.{ILBM, BODY, isPicture}
+use Rattle.ilbm_spec.specs.Contents.{SharedProp, scopeInside, Content, contentOf}
 
 -- The place for the last chunk of this name before the first BODY: the one so far, and then among chunks of which the first stands at p.
 unfoldable pub lastOwnAt : ℕ → ℕ → Option ℕ → Chunks → Option ℕ
@@ -57,7 +57,7 @@ unfoldable pub formsFrom : ℕ → List SharedProp → Chunks → List PictureFo
 formsFrom p scope none = []
 formsFrom p scope (leaf n d pad F) = formsFrom (p + (8 + length d + length pad)) scope F
 formsFrom p scope (group n t G F) =
-    pick (both (eqb n FORM) (eqb t ILBM)) (formAt p G scope ∷ []) [] ++
+    pick (isPicture n t) (formAt p G scope ∷ []) [] ++
     (formsFrom (p + 12) (scopeInside n p G scope) G ++ formsFrom (p + (12 + length (bytes G))) scope F)
 
 abbrev pub formsOf : Chunk → List PictureForm
@@ -67,30 +67,6 @@ formsOf c = formsFrom 0 [] (before c none)
 unfoldable pub contentsIn : List PictureForm → List Content
 contentsIn [] = []
 contentsIn (f ∷ fs) = contentOf (f .members) (f .scope) ∷ contentsIn fs
-
-contents-append : (fs gs : List PictureForm) → contentsIn (fs ++ gs) ≡ contentsIn fs ++ contentsIn gs
-unfolding contentsIn
-contents-append [] gs = refl
-contents-append (f ∷ fs) gs = ap (λ (cs : List Content). contentOf (f .members) (f .scope) ∷ cs) (contents-append fs gs)
-
-contents-after :
-    (b : Bool) (f : PictureForm) (fs gs : List PictureForm) →
-    contentsIn (pick b (f ∷ []) [] ++ (fs ++ gs)) ≡ pick b (contentOf (f .members) (f .scope) ∷ []) [] ++ (contentsIn fs ++ contentsIn gs)
-unfolding contentsIn
-contents-after true f fs gs = ap (λ (cs : List Content). contentOf (f .members) (f .scope) ∷ cs) (contents-append fs gs)
-contents-after false f fs gs = contents-append fs gs
-
-pub contents-of-forms : (p : ℕ) (scope : List SharedProp) (F : Chunks) → contentsIn (formsFrom p scope F) ≡ contentsFrom p scope F
-unfolding formsFrom contentsFrom contentsIn
-contents-of-forms p scope none = refl
-contents-of-forms p scope (leaf n d pad F) = contents-of-forms (p + (8 + length d + length pad)) scope F
-contents-of-forms p scope (group n t G F) =
-    let inside = contents-of-forms (p + 12) (scopeInside n p G scope) G in
-    let behind = contents-of-forms (p + (12 + length (bytes G))) scope F in
-    contents-after (both (eqb n FORM) (eqb t ILBM)) (formAt p G scope)
-    (formsFrom (p + 12) (scopeInside n p G scope) G)
-    (formsFrom (p + (12 + length (bytes G))) scope F) ∙
-    rw (inside, behind)
 
 -- Where the data of the property of this name begins, of picture i in a list and in a file; 0 if there is none.
 unfoldable pub placeAmong : List PictureForm → ℕ → ℕ → ℕ

@@ -11,7 +11,8 @@ use Rattle.ilbm_spec.specs.declared.LineAnswer.{LineAnswer}
 use Rattle.ilbm_spec.specs.declared.LineAnswer.the-variants.{Next, Refused}
 use Rattle.ilbm_spec.specs.declared.FrameAnswer.{FrameAnswer}
 use Rattle.ilbm_spec.specs.declared.FrameAnswer.the-variants.{Leftover, Refused as Frame-refused}
-use Rattle.ilbm_spec.specs.Pictures.{Viewed, viewed, unseen, viewOf, dataOf, headerIn}
+use Rattle.iff_tree.specs.Judge.{Found, found, refused}
+use Rattle.ilbm_spec.specs.Pictures.{Viewed, viewOf, dataOf, headerIn}
 
 -- "A plane row is 2 * floor((w+15)/16) bytes."
 abbrev pub rowLength : ℕ → ℕ
@@ -21,27 +22,26 @@ rowLength w = 2 * ((w + 15) / 16)
 abbrev pub rowsInLine : BitmapHeader → ℕ
 rowsInLine b = b .planes + pick (eqb (b .masking) 1) 1 0
 
--- What reading comes to: a value and the next place, or the number and place of a fault.
-pub data Read (A : Type 0) : Type 0 where
-  read : A → ℕ → Read A
-  fault : ℕ → ℕ → Read A
+-- What reading comes to: a value and the next place, or the number and place of a refusal.
+abbrev pub Read : Type 0 → Type 0
+Read A = Found (A × ℕ)
 
 abbrev pub thenRead : {A B : Type 0} → Read A → (A → ℕ → Read B) → Read B
-thenRead (read a q) f = f a q
-thenRead (fault k p) f = fault k p
+thenRead (found (a, q)) f = f a q
+thenRead (refused k p) f = refused k p
 
 -- a plane row: 27 where a copy or repeat oversteps it, 26 where the BODY ends before it is full
 abbrev pub rowRead : Row → Read (List ℕ)
-rowRead (filled bs q) = read bs q
-rowRead (over q) = fault 27 q
-rowRead (short q) = fault 26 q
+rowRead (filled bs q) = found (bs, q)
+rowRead (over q) = refused 27 q
+rowRead (short q) = refused 26 q
 
 -- so many plane rows of n bytes, one after the other: "Faults 26 and 27 are met in row order"
 unfoldable pub rowsFrom : ℕ → List ℕ → ℕ → ℕ → ℕ → Read (List (List ℕ))
-rowsFrom compression body n zero at = read [] at
+rowsFrom compression body n zero at = found ([], at)
 rowsFrom compression body n (suc rows) at =
     thenRead (rowRead (rowOf compression body at n)) (λ bs q.
-    thenRead (rowsFrom compression body n rows q) (λ rest r. read (bs ∷ rest) r))
+    thenRead (rowsFrom compression body n rows q) (λ rest r. found ((bs ∷ rest), r)))
 
 -- "the bit 7 - (x mod 8) of byte floor(x/8)"
 abbrev pub bitAt : List ℕ → ℕ → ℕ
@@ -62,55 +62,55 @@ coloursFrom x (suc n) planes = colourBy 1 x planes ∷ coloursFrom (suc x) n pla
 abbrev pub lineFrom : BitmapHeader → List ℕ → ℕ → Read (List ℕ)
 lineFrom b body at =
     thenRead (rowsFrom (b .compression) body (rowLength (b .w)) (rowsInLine b) at) (λ rows q.
-    read (coloursFrom 0 (b .w) (take (b .planes) rows)) q)
+    found (coloursFrom 0 (b .w) (take (b .planes) rows), q))
 
 -- so many scan lines, one after the other
 unfoldable pub linesFrom : BitmapHeader → List ℕ → ℕ → ℕ → Read (List ℕ)
-linesFrom b body zero at = read [] at
+linesFrom b body zero at = found ([], at)
 linesFrom b body (suc lines) at =
-    thenRead (lineFrom b body at) (λ cs q. thenRead (linesFrom b body lines q) (λ rest r. read (cs ++ rest) r))
+    thenRead (lineFrom b body at) (λ cs q. thenRead (linesFrom b body lines q) (λ rest r. found ((cs ++ rest), r)))
 
 -- Rows are asked of a picture: 25 for no BODY, and otherwise what `rows` says of its header and its BODY.
 abbrev pub onBody : List (List ℕ) → (List ℕ → Read (List ℕ)) → Read (List ℕ)
-onBody [] rows = fault 25 0
+onBody [] rows = refused 25 0
 onBody (body ∷ others) rows = rows body
 
 abbrev pub askRows : Viewed → (BitmapHeader → List ℕ → Read (List ℕ)) → Read (List ℕ)
-askRows (viewed c) rows = onBody (c .bodies) (λ body. rows (headerIn (dataOf (c .bmhd))) body)
-askRows (unseen k p) rows = fault k p
+askRows (found c) rows = onBody (c .bodies) (λ body. rows (headerIn (dataOf (c .bmhd))) body)
+askRows (refused k p) rows = refused k p
 
 -- 29: "start place beyond the BODY's end"; 28: "lent row not exactly w bytes"
 abbrev pub lineRead : Viewed → ℕ → ℕ → Read (List ℕ)
 lineRead v start room =
     askRows v (λ b body.
-    pick (ltb (length body) start) (fault 29 0)
-    (pick (not (eqb room (b .w))) (fault 28 0)
+    pick (ltb (length body) start) (refused 29 0)
+    (pick (not (eqb room (b .w))) (refused 28 0)
     (lineFrom b body start)))
 
 -- "a whole frame is h scan lines from place 0, with the leftover BODY bytes counted"; 28: "lent frame not w times h". The place
 -- after the last line becomes the count of what is left.
 abbrev pub leftover : ℕ → Read (List ℕ) → Read (List ℕ)
-leftover n (read cs q) = read cs (n - q)
-leftover n (fault k p) = fault k p
+leftover n (found (cs, q)) = found (cs, (n - q))
+leftover n (refused k p) = refused k p
 
 abbrev pub frameRead : Viewed → ℕ → Read (List ℕ)
 frameRead v room =
     askRows v (λ b body.
-    pick (not (eqb room (b .w * b .h))) (fault 28 0)
+    pick (not (eqb room (b .w * b .h))) (refused 28 0)
     (leftover (length body) (linesFrom b body (b .h) 0)))
 
 -- what is told, and what stands in the lent row or frame afterwards: a refusal changes nothing
 abbrev pub lineAnswer : Read (List ℕ) → LineAnswer
-lineAnswer (read cs q) = Next q
-lineAnswer (fault k p) = Refused k p
+lineAnswer (found (cs, q)) = Next q
+lineAnswer (refused k p) = Refused k p
 
 abbrev pub frameAnswer : Read (List ℕ) → FrameAnswer
-frameAnswer (read cs n) = Leftover n
-frameAnswer (fault k p) = Frame-refused k p
+frameAnswer (found (cs, n)) = Leftover n
+frameAnswer (refused k p) = Frame-refused k p
 
-abbrev pub written : Read (List ℕ) → List ℕ → List ℕ
-written (read cs q) old = cs
-written (fault k p) old = old
+abbrev pub bytesAfter : Read (List ℕ) → List ℕ → List ℕ
+bytesAfter (found (cs, q)) old = cs
+bytesAfter (refused k p) old = old
 
 -- The scan line of picture i from a place, and the frame of picture i, for a lent row or frame.
 abbrev pub lineOf : List ℕ → ℕ → ℕ → ℕ → Read (List ℕ)

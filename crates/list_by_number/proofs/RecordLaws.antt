@@ -10,10 +10,10 @@ use Rattle.iff_grammar.specs.Words.{Bytes}
 use Rattle.list_spec.specs.declared.Record.{Record}
 use Rattle.list_spec.specs.declared.Listed.the-variants.{Chunk as Listed-chunk, Refused}
 use Rattle.list_spec.specs.Records.{recordOf, countOf}
-use Rattle.list_spec.specs.Counts.{record-beyond, refused-record}
+use Rattle.list_spec.specs.laws.Counts.{record-beyond, refused-record}
 use Rattle.list_cursor.specs.declared.Cursor.{Cursor}
 use Rattle.list_cursor.specs.Cursors.{firstCursor, Located}
-use Rattle.list_cursor.specs.Walk.{located-first}
+use Rattle.list_cursor.specs.laws.Walk.{located-first}
 
 -- from the first record to the one that is asked for
 

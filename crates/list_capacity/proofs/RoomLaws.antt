@@ -15,8 +15,8 @@ use Rattle.iff_tree.specs.declared.Verdict.{Verdict}
 use Rattle.iff_tree.specs.declared.Verdict.the-variants.{Accepted, Refused as Verdict-refused}
 use Rattle.iff_grammar.specs.Words.{Bytes}
 use Rattle.list_spec.specs.Records.{recordsOf}
-use Rattle.list_spec.specs.Counts.{length-records}
-use Rattle.list_cursor.specs.Walk.{located-first}
+use Rattle.list_spec.specs.laws.Counts.{length-records}
+use Rattle.list_cursor.specs.laws.Walk.{located-first}
 use Rattle.list_capacity.specs.Room.{recordsIn, recordsFor, answerOf, toPut, Ready}
 
 module _ (s : List ℕ) (v : Verdict) (d : v ≡ checkOf s) where

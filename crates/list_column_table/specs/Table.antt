@@ -6,7 +6,7 @@ use lib.ListN.{length}
 use Rattle.iff_tree.specs.Judge.{readFile, checkOf}
 use Rattle.iff_tree.specs.declared.Verdict.{Verdict}
 use Rattle.list_capacity.specs.Room.{recordsFor, answerOf}
-use Rattle.list_columns.specs.Columns.{numberOf, levelOf, kindNumberOf, nameOf, placeOf, sizeOf, column}
+use Rattle.list_columns.specs.Columns.{recordNumber, levelOf, kindNumberOf, nameOf, recordPlace, sizeOf, column}
 
 -- A table has as many places as its shortest column.
 abbrev pub roomOf : List ℕ → List ℕ → List ℕ → List ℕ → List ℕ → List ℕ → ℕ
@@ -18,9 +18,9 @@ pub record Filled
     (numbers₀ levels₀ kinds₀ names₀ places₀ sizes₀ numbers levels kinds names places sizes : List ℕ)
     : Type 0 where
   pub answer : r ≡ answerOf m (checkOf s)
-  pub numbers-are : numbers ≡ column numberOf (recordsFor m (readFile s)) numbers₀
+  pub numbers-are : numbers ≡ column recordNumber (recordsFor m (readFile s)) numbers₀
   pub levels-are : levels ≡ column levelOf (recordsFor m (readFile s)) levels₀
   pub kinds-are : kinds ≡ column kindNumberOf (recordsFor m (readFile s)) kinds₀
   pub names-are : names ≡ column nameOf (recordsFor m (readFile s)) names₀
-  pub places-are : places ≡ column placeOf (recordsFor m (readFile s)) places₀
+  pub places-are : places ≡ column recordPlace (recordsFor m (readFile s)) places₀
   pub sizes-are : sizes ≡ column sizeOf (recordsFor m (readFile s)) sizes₀

@@ -9,7 +9,7 @@ use Rattle.iff_chunk.specs.Chunks.{Chunk}
 use Rattle.iff_tree.specs.Judge.{Found, found, refused, readFile}
 use Rattle.iff_name.specs.declared.Kind.{Kind}
 use Rattle.iff_name.specs.declared.Kind.the-variants.{FORM, LIST, CAT, PROP, FILLER, LOCAL}
-use Rattle.export_numbers.specs.Told.{kindNumber}
+use Rattle.iff_name.specs.Name.{kindNumber}
 use Rattle.list_spec.specs.declared.Record.{Record}
 use Rattle.list_spec.specs.declared.Listed.the-variants.{Chunk as Listed-chunk}
 use Rattle.list_spec.specs.Records.{recordsOf, pickRecord, recordIn, recordOf, countOf}

@@ -1,13 +1,13 @@
 -- 01 "Listing": "a lent table of records, one per chunk, is filled in order, places beyond left as found", one field of a record.
 use Prim.Native.Nat.{ℕ}
 use mathlib.Core.List.{List, [], _∷_}
-use Rattle.export_numbers.specs.Told.{kindNumber}
+use Rattle.iff_name.specs.Name.{kindNumber}
 use Rattle.list_spec.specs.declared.Record.{Record}
 
 -- the fields of a record as a table has them
 
-abbrev pub numberOf : Record → ℕ
-numberOf r = r .number
+abbrev pub recordNumber : Record → ℕ
+recordNumber r = r .number
 
 abbrev pub levelOf : Record → ℕ
 levelOf r = r .level
@@ -18,8 +18,8 @@ kindNumberOf r = kindNumber (r .kind)
 abbrev pub nameOf : Record → ℕ
 nameOf r = r .name .code
 
-abbrev pub placeOf : Record → ℕ
-placeOf r = r .place
+abbrev pub recordPlace : Record → ℕ
+recordPlace r = r .place
 
 abbrev pub sizeOf : Record → ℕ
 sizeOf r = r .size

@@ -6,11 +6,11 @@ ghost use lib.ListN.{length, set, take};
 ghost use Rattle.iff_tree.specs.Judge.{readFile};
 ghost use Rattle.list_capacity.specs.Room.{recordsIn, Ready};
 ghost use Rattle.list_columns.specs.Columns.{
-  numberOf,
+  recordNumber,
   levelOf,
   kindNumberOf,
   nameOf,
-  placeOf,
+  recordPlace,
   sizeOf,
   column,
 };
@@ -55,17 +55,17 @@ fn put_record(
         × (i < length (now names))
         × (i < length (now places))
         × (i < length (now sizes)) ⌝ }
-    ensures { λ _. ⌜ (now (numbers .exit) ≡ set (now (numbers .entry)) i (numberOf r))
+    ensures { λ _. ⌜ (now (numbers .exit) ≡ set (now (numbers .entry)) i (recordNumber r))
         × (now (levels .exit) ≡ set (now (levels .entry)) i (levelOf r))
         × (now (kinds .exit) ≡ set (now (kinds .entry)) i (kindNumberOf r))
         × (now (names .exit) ≡ set (now (names .entry)) i (nameOf r))
-        × (now (places .exit) ≡ set (now (places .entry)) i (placeOf r))
+        × (now (places .exit) ≡ set (now (places .entry)) i (recordPlace r))
         × (now (sizes .exit) ≡ set (now (sizes .entry)) i (sizeOf r)) ⌝ }
 {
     let kind = r.kind;
     numbers[i] = r.number;
     levels[i] = r.level;
-    kinds[i] = export_numbers::kind_number(kind) as u8;
+    kinds[i] = iff_name::kind_number(kind) as u8;
     names[i] = r.name.code;
     places[i] = r.place;
     sizes[i] = r.size;
@@ -89,11 +89,11 @@ pub fn put_records(
         × (n ≤ length (now names))
         × (n ≤ length (now places))
         × (n ≤ length (now sizes)) ⌝ }
-    ensures { λ _. ⌜ (now (numbers .exit) ≡ column numberOf (take n (recordsIn (readFile (now (s .entry))))) (now (numbers .entry)))
+    ensures { λ _. ⌜ (now (numbers .exit) ≡ column recordNumber (take n (recordsIn (readFile (now (s .entry))))) (now (numbers .entry)))
         × (now (levels .exit) ≡ column levelOf (take n (recordsIn (readFile (now (s .entry))))) (now (levels .entry)))
         × (now (kinds .exit) ≡ column kindNumberOf (take n (recordsIn (readFile (now (s .entry))))) (now (kinds .entry)))
         × (now (names .exit) ≡ column nameOf (take n (recordsIn (readFile (now (s .entry))))) (now (names .entry)))
-        × (now (places .exit) ≡ column placeOf (take n (recordsIn (readFile (now (s .entry))))) (now (places .entry)))
+        × (now (places .exit) ≡ column recordPlace (take n (recordsIn (readFile (now (s .entry))))) (now (places .entry)))
         × (now (sizes .exit) ≡ column sizeOf (take n (recordsIn (readFile (now (s .entry))))) (now (sizes .entry))) ⌝ }
 {
     let mut cur = list_cursor::first();

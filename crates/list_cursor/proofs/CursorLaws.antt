@@ -16,7 +16,7 @@ use Rattle.list_spec.specs.declared.Listed.the-variants.{Chunk as Listed-chunk}
 use Rattle.list_spec.specs.Records.{recordOf, countOf}
 use Rattle.list_cursor.specs.declared.Cursor.{Cursor}
 use Rattle.list_cursor.specs.Cursors.{nameAt, recordAt, openLevel, entered, passed, groupAt, onwardAt, Enterable, Passable, Lies, Located}
-use Rattle.list_cursor.specs.Walk.{located-record, located-header, located-type, located-enterable, located-passable, located-onward, onward-number}
+use Rattle.list_cursor.specs.laws.Walk.{located-record, located-header, located-type, located-enterable, located-passable, located-onward, onward-number}
 
 -- groups that end at a place
 

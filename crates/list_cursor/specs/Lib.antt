@@ -1,3 +1,2 @@
 pub mod Cursors
-pub mod Steps
-pub mod Walk
+pub mod laws

@@ -7,7 +7,8 @@ use native.Mathlib.Omega.{arith}
 use lib.ListN.{length, take, drop}
 use lib.Seq.{slice}
 use Rattle.iff_rules.specs.Rules.{isGroup}
-use Rattle.iff_grammar.specs.Words.{Bytes, slice-take}
+use Rattle.iff_grammar.specs.Words.{Bytes}
+use Rattle.iff_grammar.specs.laws.Words.{slice-take}
 use Rattle.list_spec.specs.declared.Record.{Record}
 use Rattle.list_spec.specs.declared.Listed.{Listed}
 use Rattle.list_spec.specs.declared.Listed.the-variants.{Chunk as Listed-chunk, Refused}
@@ -15,7 +16,7 @@ use Rattle.list_spec.specs.declared.Extent.{Extent}
 use Rattle.list_spec.specs.declared.Extent.the-variants.{Data, Refused as Extent-refused}
 use Rattle.list_spec.specs.Records.{recordOf}
 use Rattle.list_spec.specs.Contents.{dataOf, extentIn, extentOf}
-use Rattle.list_spec.specs.Data.{extent-data, extent-none, record-inside}
+use Rattle.list_spec.specs.laws.Data.{extent-data, extent-none, record-inside}
 
 -- where the data of a record's chunk lies
 

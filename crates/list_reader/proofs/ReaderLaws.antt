@@ -21,7 +21,8 @@ use Rattle.list_reader.specs.declared.Step.{Step}
 use Rattle.list_reader.specs.declared.Step.the-variants.{Chunk, End}
 use Rattle.list_reader.specs.declared.Opening.the-variants.{Accepted as Opening-accepted, Refused as Opening-refused}
 use Rattle.list_reader.specs.Reading.{openingIn, openingOf, firstPlace, stepIn, stepAt, placeAfter}
-use Rattle.list_reader.specs.Agree.{placeOf, given-below, ended-behind, number-small}
+use Rattle.list_reader.specs.Agree.{placeBefore}
+use Rattle.list_reader.specs.laws.Agree.{given-below, ended-behind, number-small}
 
 -- by the verdict of the check
 
@@ -64,11 +65,11 @@ pub ruleset reader-laws = (opening-accepted, opening-refused, first-accepted, fi
 
 pub record Counting (s : List ℕ) (p : Place) (n : ℕ) : Type 0 where
   pub bytes : Bytes s
-  pub place : p ≡ placeOf s n
+  pub place : p ≡ placeBefore s n
   pub below : n ≤ countOf s
 
 pub count-start : (s : List ℕ) (p : Place) → Bytes s → p ≡ firstPlace s → Counting s p 0
-unfolding placeOf
+unfolding placeBefore
 count-start s p b e = record { bytes = b; place = e; below = omega arith }
 
 module _ (s : List ℕ) (p : Place) (n : ℕ) (h : Counting s p n) (x : Step) (d : x ≡ stepAt s p) where
@@ -86,7 +87,7 @@ module _ (s : List ℕ) (p : Place) (n : ℕ) (h : Counting s p n) (x : Step) (d
     count-less = omega (arith, more)
 
     pub count-on : (q : Place) → q ≡ placeAfter s p → Counting s q (n + 1)
-    unfolding placeOf
+    unfolding placeBefore
     count-on q e = record { bytes = h .bytes; place = e ∙ rw (h .place, add-one n); below = omega (arith, more) }
 
 pub ruleset count-laws = (count-start, count-done, count-small, count-less, count-on)

@@ -1,4 +1,3 @@
 pub mod Records
-pub mod Counts
 pub mod Contents
-pub mod Data
+pub mod laws

@@ -8,7 +8,8 @@ use Rattle.io.specs.Digits.{Fewest, digits}
 use Rattle.iff_name.specs.declared.Kind.{Kind}
 use Rattle.iff_name.specs.declared.Kind.the-variants.{FORM, LIST, CAT, PROP, FILLER, LOCAL}
 use Rattle.print_line.specs.Text.{Puts, numberLine, kindText, kindLine, nameText, nameLine, kind=, name=}
-use Rattle.print_line.specs.Words.{letters, kindWord, kind-letters}
+use Rattle.print_line.specs.Words.{letters, kindWord}
+use Rattle.print_line.specs.laws.Words.{kind-letters}
 use Rattle.print_line.proofs.Decimals.{spelled}
 
 pub behind : (o m e x y : List ℕ) (at a r : ℕ) → Puts o at x m a → Puts m a y e r → Puts o at (x ++ y) e r

@@ -1,3 +1,3 @@
 pub mod Text
 pub mod Words
-pub mod Examples
+pub mod laws

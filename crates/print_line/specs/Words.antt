@@ -1,12 +1,10 @@
 -- A word is a number of eight bytes, the first the highest, and its letters are its bytes up to the zeros at its end.
 use Prim.Native.Nat.{ℕ, zero, suc, _*_, _/_, _%_}
 use mathlib.Core.Bool.{cond}
-use mathlib.Core.Path.{_≡_, refl}
 use mathlib.Core.List.{List, [], _∷_, _++_}
 use lib.Dec.{ltb}
 use Rattle.iff_name.specs.declared.Kind.{Kind}
 use Rattle.iff_name.specs.declared.Kind.the-variants.{FORM, LIST, CAT, PROP, FILLER, LOCAL}
-use Rattle.print_line.specs.Text.{kindText}
 
 -- the letters of a word, at most k
 unfoldable pub lettersUpTo : ℕ → ℕ → List ℕ
@@ -27,12 +25,3 @@ kindWord CAT = 0x4341540000000000
 kindWord PROP = 0x50524F5000000000
 kindWord FILLER = 0x46494C4C45520000
 kindWord LOCAL = 0x4C4F43414C000000
-
-pub kind-letters : (k : Kind) → letters (kindWord k) ≡ kindText k
-unfolding lettersUpTo
-kind-letters FORM = refl
-kind-letters LIST = refl
-kind-letters CAT = refl
-kind-letters PROP = refl
-kind-letters FILLER = refl
-kind-letters LOCAL = refl

@@ -10,7 +10,7 @@ use Rattle.iff_grammar.specs.Words.{Bytes}
 use Rattle.list_spec.specs.Records.{countOf}
 use Rattle.list_cursor.specs.declared.Cursor.{Cursor}
 use Rattle.list_cursor.specs.Cursors.{firstCursor, Located}
-use Rattle.list_cursor.specs.Walk.{located-first}
+use Rattle.list_cursor.specs.laws.Walk.{located-first}
 
 module _ (s : List ℕ) (v : Verdict) (n a t : ℕ) (d : v ≡ checkOf s) (e : v ≡ Accepted n a t) (b : Bytes s) where
   pub accepted-start : Located s firstCursor

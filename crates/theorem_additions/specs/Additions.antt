@@ -13,8 +13,8 @@ use Rattle.iff_rules.specs.declared.Position.the-variants.{Outermost, InForm, I
 use Rattle.iff_chunk.specs.Chunks.{Chunks, none, leaf, group, Chunk, aLeaf, aGroup, before, bytes, putWord, word}
 use Rattle.iff_rules.specs.Rules.{inside, after, groupType}
 use Rattle.iff_grammar.specs.Grammar.{chunkName, member, seenAfter, Members, height}
-use Rattle.ilbm_spec.specs.Contents.{ILBM}
-use Rattle.ilbm_spec.specs.Ignored.{foreign, noPicture}
+use Rattle.ilbm_spec.specs.Names.{ILBM, isPictureType}
+use Rattle.ilbm_spec.specs.laws.Ignored.{foreign, noPicture}
 
 -- the types of the PROPs directly among these chunks
 unfoldable pub propTypes : Chunks → List ℕ
@@ -61,11 +61,11 @@ abbrev pub PropMay : Position → List ℕ → ℕ → Chunks → Type 0
 PropMay Outermost seen t F = ⊥
 PropMay InForm seen t F = ⊥
 PropMay InProp seen t F = ⊥
-PropMay InList seen t F = (eqb t ILBM ≡ false) × (member t seen ≡ false) × (member t (propTypes F) ≡ false)
+PropMay InList seen t F = (isPictureType t ≡ false) × (member t seen ≡ false) × (member t (propTypes F) ≡ false)
 PropMay InCat seen t F = ⊥
 
 abbrev pub GroupMay : Kind → Position → List ℕ → ℕ → Chunks → Chunks → Type 0
-GroupMay FORM w seen t G F = FormMay w F × (eqb t ILBM ≡ false) × (noPicture G ≡ true)
+GroupMay FORM w seen t G F = FormMay w F × (isPictureType t ≡ false) × (noPicture G ≡ true)
 GroupMay LIST w seen t G F = ⊥
 GroupMay CAT w seen t G F = ⊥
 GroupMay PROP w seen t G F = PropMay w seen t F
@@ -105,14 +105,14 @@ insert (into i) X (leaf n d p F) = leaf n d p F
 insert (into i) X (group n t G F) = group n t (insert i X G) F
 
 -- where the boundary lies in the file, the first of the chunks standing at p
-unfoldable pub placeOf : Boundary → ℕ → Chunks → ℕ
-placeOf here p F = p
-placeOf (past i) p none = p
-placeOf (past i) p (leaf n d pad F) = placeOf i (p + (8 + length d + length pad)) F
-placeOf (past i) p (group n t G F) = placeOf i (p + (12 + length (bytes G))) F
-placeOf (into i) p none = p
-placeOf (into i) p (leaf n d pad F) = p
-placeOf (into i) p (group n t G F) = placeOf i (p + 12) G
+unfoldable pub boundaryPlace : Boundary → ℕ → Chunks → ℕ
+boundaryPlace here p F = p
+boundaryPlace (past i) p none = p
+boundaryPlace (past i) p (leaf n d pad F) = boundaryPlace i (p + (8 + length d + length pad)) F
+boundaryPlace (past i) p (group n t G F) = boundaryPlace i (p + (12 + length (bytes G))) F
+boundaryPlace (into i) p none = p
+boundaryPlace (into i) p (leaf n d pad F) = p
+boundaryPlace (into i) p (group n t G F) = boundaryPlace i (p + 12) G
 
 -- the places of the groups around the boundary, the outermost first
 unfoldable pub around : Boundary → ℕ → Chunks → List ℕ
@@ -162,7 +162,7 @@ topMembers (aLeaf n d p) = none
 topMembers (aGroup n t G) = G
 
 abbrev pub addedAt : Addition → Chunk → ℕ
-addedAt (chunk i X) c = placeOf i 12 (topMembers c)
+addedAt (chunk i X) c = boundaryPlace i 12 (topMembers c)
 addedAt (trailing k xs) c = length (bytesOf c) + k
 
 -- the file with the addition made, where c is the tree of the file as it stands
@@ -210,7 +210,7 @@ headersFrom p (group n t G F) = p ∷ (headersFrom (p + 12) G ++ headersFrom (p 
 
 -- "added headers, those inside an added group too (bytes after the end have no headers)"
 abbrev pub newHeaders : Addition → Chunk → List ℕ
-newHeaders (chunk i X) c = headersFrom (placeOf i 12 (topMembers c)) (before X none)
+newHeaders (chunk i X) c = headersFrom (boundaryPlace i 12 (topMembers c)) (before X none)
 newHeaders (trailing k xs) c = []
 
 abbrev pub mapℕ : (ℕ → ℕ) → List ℕ → List ℕ

@@ -7,16 +7,16 @@ use native.Mathlib.Omega.{arith}
 use lib.ListN.{length, length-append}
 use Rattle.iff_chunk.specs.Chunks.{none, group, Chunk, aLeaf, aGroup, bytes}
 use Rattle.iff_grammar.specs.Grammar.{member, ChunkFile}
-use Rattle.iff_grammar.specs.Read.{length-group}
+use Rattle.iff_grammar.specs.laws.Read.{length-group}
 use Rattle.iff_grammar.specs.Accept.{complete, sound}
 use Rattle.theorem_additions.specs.Additions.{treeAfter, fileAfter, movedBy, addedHeaders, Renaming, renamed, lowest}
 use Rattle.theorem_additions.specs.Statement.{AllRefused, OverAdded, Demand3}
-use Rattle.theorem_additions.specs.Files.{outermost-group}
-use Rattle.theorem_additions.specs.Calls.{same-answers}
-use Rattle.theorem_additions.specs.After.{file-after, contents-after}
-use Rattle.theorem_additions.specs.Places.{InnerAt, header-high, added-inner}
-use Rattle.theorem_additions.specs.Renamed.{mark-all}
-use Rattle.theorem_additions.specs.Refused.{file-refused, all-refused}
+use Rattle.theorem_additions.specs.laws.Files.{outermost-group}
+use Rattle.theorem_additions.specs.laws.Calls.{same-answers}
+use Rattle.theorem_additions.specs.laws.After.{file-after, contents-after}
+use Rattle.theorem_additions.specs.laws.Places.{InnerAt, header-high, added-inner}
+use Rattle.theorem_additions.specs.laws.Renamed.{mark-all}
+use Rattle.theorem_additions.specs.laws.Refused.{file-refused, all-refused}
 
 -- version names over headers inside the outermost chunk of a file of the grammar
 refused-at : (s : List ℕ) (c : Chunk) (R hs : List ℕ) → ChunkFile s c R → ((m : ℕ) → member m hs ≡ true → InnerAt m c)

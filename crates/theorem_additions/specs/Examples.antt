@@ -12,21 +12,24 @@ use Rattle.iff_rules.specs.Rules.{propWithin}
 use Rattle.iff_header.specs.Checks.{headerOf, groupHeaderOf}
 use Rattle.iff_tree.specs.Judge.{found, readFile, run, chunkAt}
 use Rattle.iff_grammar.specs.Words.{Bytes}
-use Rattle.iff_grammar.specs.Names.{both-true}
-use Rattle.ilbm_spec.specs.Contents.{FORM, LIST, PROP, ILBM, BMHD, shared, absent, lastOwn, lastShared, propAmong, propertyOf, bodiesIn, contentsFrom}
-use Rattle.ilbm_spec.specs.Pictures.{headerIn, wrongSize, headerFault, pictureFault, Viewed, viewed, pickContent, viewOf}
-use Rattle.ilbm_spec.specs.Ignored.{noPicture}
-use Rattle.theorem_additions.specs.Additions.{here, past, into, Addition, chunk, trailing, propTypes, insert, placeOf, around, growAll}
+use Rattle.iff_grammar.specs.laws.Names.{both-true}
+use Rattle.iff_name.specs.Codes.{FORM, LIST, PROP, CAT, JJJJ}
+use Rattle.ilbm_spec.specs.Names.{ILBM, BMHD}
+use Rattle.ilbm_spec.specs.Contents.{shared, absent, lastOwn, lastShared, propAmong, propertyOf, bodiesIn, contentsFrom}
+use Rattle.ilbm_spec.specs.Pictures.{headerIn, wrongSize, headerRefusal, pictureRefusal, Viewed, pickContent, viewOf}
+use Rattle.ilbm_spec.specs.laws.Ignored.{noPicture}
+use Rattle.theorem_additions.specs.Additions.{here, past, into, Addition, chunk, trailing, propTypes, insert, boundaryPlace, around, growAll}
 use Rattle.theorem_additions.specs.Additions.{MayAddAll, fileAfter, movedBy, headersFrom, addedHeaders, renamed, lowest}
 use Rattle.theorem_additions.specs.Statement.{Unchanged, AllRefused}
-use Rattle.theorem_additions.specs.Boundaries.{CAT, JJJJ, AAAA}
+use Rattle.theorem_additions.specs.laws.Boundaries.{AAAA}
 use Rattle.theorem_additions.specs.Demand3.{demand3}
+use Rattle.iff_name.specs.Codes as Codes
 
 abbrev XXXX : ℕ
 XXXX = 0x58585858
 
 abbrev FILLER : ℕ
-FILLER = 0x20202020
+FILLER = Codes.FILLER
 
 abbrev FOR1 : ℕ
 FOR1 = 0x464F5231
@@ -102,7 +105,7 @@ step : {A B C D : Type 0} → A → B → C → D → A × B × C × D
 step a b c d = (a, b, c, d)
 
 may : MayAddAll additions tree file
-unfolding wellFormed versionName typeName typeBytes reservedName kindOf propTypes noPicture insert placeOf around growAll bytes word
+unfolding wellFormed versionName typeName typeBytes reservedName kindOf propTypes noPicture insert boundaryPlace around growAll bytes word
 may =
     step (refl, tt, refl) (omega arith) (omega arith)
     (step ((refl, refl, refl), refl, tt) (omega arith) (omega arith)
@@ -120,18 +123,18 @@ may =
     tt))))))))))))
 
 becomes : fileAfter additions tree file ≡ edited
-unfolding fileAfter insert placeOf around growAll bytes word
+unfolding fileAfter insert boundaryPlace around growAll bytes word
 becomes = refl
 
 -- the headers that were added, in the edited file
 added-headers :
     addedHeaders additions tree ≡ 24 ∷ 12 ∷ 44 ∷ 82 ∷ 136 ∷ 146 ∷ 124 ∷ 90 ∷ 174 ∷ 166 ∷ 102 ∷ []
-unfolding addedHeaders movedBy headersFrom insert placeOf bytes
+unfolding addedHeaders movedBy headersFrom insert boundaryPlace bytes
 added-headers = refl
 
 -- the PROP ILBM stood at 12; a filler of 8 bytes and a PROP of 12 were put before it
 prop-place : movedBy additions tree 12 ≡ 32
-unfolding movedBy insert placeOf bytes
+unfolding movedBy insert boundaryPlace bytes
 prop-place = refl
 
 small : List ℕ → Bool
@@ -154,22 +157,22 @@ unchanged = demand3 file file-bytes tree reads additions may
 -- the picture before and after: its header is shared, and only the place of the PROP differs
 abbrev shows : ℕ → Viewed
 shows place =
-    viewed (record { bmhd = shared place header; cmap = absent; grab = absent; dest = absent; sprt = absent; camg = absent; bodies = [] })
+    found (record { bmhd = shared place header; cmap = absent; grab = absent; dest = absent; sprt = absent; camg = absent; bodies = [] })
 
 view-before : viewOf file 0 ≡ shows 12
 unfolding
     readFile chunkAt run headerOf groupHeaderOf word wellFormed versionName typeName typeBytes reservedName kindOf propWithin
-    contentsFrom propAmong propertyOf lastOwn lastShared bodiesIn pickContent pictureFault wrongSize headerFault headerIn bytes
+    contentsFrom propAmong propertyOf lastOwn lastShared bodiesIn pickContent pictureRefusal wrongSize headerRefusal headerIn bytes
 view-before = refl
 
 view-after : viewOf edited 0 ≡ shows 32
 unfolding
     readFile chunkAt run headerOf groupHeaderOf word wellFormed versionName typeName typeBytes reservedName kindOf propWithin
-    contentsFrom propAmong propertyOf lastOwn lastShared bodiesIn pickContent pictureFault wrongSize headerFault headerIn bytes
+    contentsFrom propAmong propertyOf lastOwn lastShared bodiesIn pickContent pictureRefusal wrongSize headerRefusal headerIn bytes
 view-after = refl
 
 -- a name over the FORM in the FORM ILBM, and one over the local chunk in the FORM in the LIST, which stands before it
 
 version-names : AllRefused (renamed (record { place = 124; name = FOR1 } ∷ record { place = 102; name = CAT9 } ∷ []) (fileAfter additions tree file)) 102
-unfolding lowest versionName addedHeaders movedBy headersFrom insert placeOf bytes
+unfolding lowest versionName addedHeaders movedBy headersFrom insert boundaryPlace bytes
 version-names = unchanged .renaming (record { place = 124; name = FOR1 }) (record { place = 102; name = CAT9 } ∷ []) (refl, refl, (refl, refl, tt))

@@ -1,15 +1,5 @@
 pub mod Additions
 pub mod Statement
-pub mod Insert
-pub mod Boundaries
-pub mod Bytes
-pub mod Files
-pub mod Ignored
-pub mod Answers
-pub mod Calls
-pub mod After
-pub mod Places
-pub mod Renamed
-pub mod Refused
 pub mod Demand3
 pub mod Examples
+pub mod laws

@@ -16,11 +16,11 @@ use Rattle.list_spec.specs.Records.{recordOf, countOf}
 use Rattle.list_capacity.specs.Room.{answerOf}
 use Rattle.list_reader.specs.declared.Step.the-variants.{End}
 use Rattle.list_reader.specs.Reading.{stepAt}
-use Rattle.list_reader.specs.Agree.{placeOf}
-use Rattle.list_reader.specs.Agree as Reader
+use Rattle.list_reader.specs.Agree.{placeBefore}
+use Rattle.list_reader.specs.laws.Agree as Reader
 use Rattle.byterun_row.specs.Packing.{Packs}
 use Rattle.byterun_pack.specs.Pack.{packed}
-use Rattle.byterun_pack.specs.Laws as Packing
+use Rattle.byterun_pack.specs.laws.Laws as Packing
 use Rattle.ilbm_spec.specs.declared.BitmapHeader.{BitmapHeader}
 use Rattle.write_picture.specs.declared.WriteAnswer.the-variants.{Written}
 use Rattle.write_form.specs.File.{pictureFile}
@@ -30,7 +30,7 @@ use Rattle.theorem_roundtrip.specs.RoundTrip as RoundTrip
 use Rattle.theorem_additions.specs.Statement as Statement
 use Rattle.theorem_additions.specs.Demand3 as Additions
 use Rattle.theorem_demands.specs.Numbers.{Structural}
-use Rattle.theorem_demands.specs.Numbers as Numbers
+use Rattle.theorem_demands.specs.laws.Numbers as Numbers
 use Rattle.theorem_demands.specs.Listings as Listings
 
 -- Demand 1. Any bytes may be handed to the check, and a refusal has one of the numbers 1 to 12. That every call ends, stays inside
@@ -58,7 +58,7 @@ pub listings-agree :
 listings-agree = Listings.same-record
 
 pub listings-end :
-    (s : List ℕ) → Bytes s → (n e t i : ℕ) → Accepted n e t ≡ checkOf s → countOf s ≤ i → (recordOf s i ≡ Listed-refused 14 0) × (stepAt s (placeOf s i) ≡ End)
+    (s : List ℕ) → Bytes s → (n e t i : ℕ) → Accepted n e t ≡ checkOf s → countOf s ≤ i → (recordOf s i ≡ Listed-refused 14 0) × (stepAt s (placeBefore s i) ≡ End)
 listings-end = Reader.ends-behind
 
 -- A packed row unpacks to the row, from any place of any BODY, and grows by at most one byte per started 128.

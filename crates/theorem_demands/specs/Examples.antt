@@ -15,8 +15,8 @@ use Rattle.byterun_pack.specs.Pack.{packBy, packed}
 use Rattle.ilbm_spec.specs.declared.BitmapHeader.{BitmapHeader}
 use Rattle.ilbm_spec.specs.declared.PictureAnswer.the-variants.{Refused as Picture-refused}
 use Rattle.ilbm_spec.specs.Contents.{lastOwn, propertyOf, bodiesIn, propAmong, contentsFrom}
-use Rattle.ilbm_spec.specs.Pictures.{pictureFault, pickContent, pictureOf}
-use Rattle.ilbm_spec.specs.Rows.{read, rowsFrom, colourBy, coloursFrom, lineFrom}
+use Rattle.ilbm_spec.specs.Pictures.{pictureRefusal, pickContent, pictureOf}
+use Rattle.ilbm_spec.specs.Rows.{rowsFrom, colourBy, coloursFrom, lineFrom}
 
 -- FORM, size 4, ILBM
 abbrev form : List ℕ
@@ -58,10 +58,10 @@ pub record Table : Type 0 where
   pub repeat-too-long : unpackRow (0xFE ∷ 0x07 ∷ []) 0 2 ≡ over 0
   pub copy-cut-short : unpackRow (0x01 ∷ 0x07 ∷ []) 0 2 ≡ short 0
   pub two-equal : packed (0x07 ∷ 0x07 ∷ []) ≡ 0x01 ∷ 0x07 ∷ 0x07 ∷ []
-  pub three-colours : lineFrom threePixels (0xA0 ∷ 0x00 ∷ 0x60 ∷ 0x00 ∷ []) 0 ≡ read (1 ∷ 2 ∷ 3 ∷ []) 4
+  pub three-colours : lineFrom threePixels (0xA0 ∷ 0x00 ∷ 0x60 ∷ 0x00 ∷ []) 0 ≡ found ((1 ∷ 2 ∷ 3 ∷ []), 4)
 
 pub examples : Table
-unfolding readFile chunkAt run headerOf groupHeaderOf propWithin word count wellFormed versionName kindOf typeBytes reservedName typeName contentsFrom propertyOf lastOwn bodiesIn propAmong pictureFault pickContent unpackRow unpackBy codeOf plainRow packed packBy pieceOf three sameFor plainFor rowsFrom coloursFrom colourBy
+unfolding readFile chunkAt run headerOf groupHeaderOf propWithin word count wellFormed versionName kindOf typeBytes reservedName typeName contentsFrom propertyOf lastOwn bodiesIn propAmong pictureRefusal pickContent unpackRow unpackBy codeOf plainRow packed packBy pieceOf three sameFor plainFor rowsFrom coloursFrom colourBy
 examples =
     record {
       empty-file = refl;

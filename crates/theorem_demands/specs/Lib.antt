@@ -2,3 +2,4 @@ pub mod Numbers
 pub mod Examples
 pub mod Listings
 pub mod Demands
+pub mod laws

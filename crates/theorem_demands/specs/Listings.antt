@@ -11,10 +11,11 @@ use Rattle.list_spec.specs.declared.Listed.the-variants.{Chunk as Listed-chunk}
 use Rattle.list_spec.specs.Records.{recordOf}
 use Rattle.list_capacity.specs.Room.{recordsFor, answerOf}
 use Rattle.list_record_table.specs.Rows.{placed}
-use Rattle.list_record_table.specs.Agree.{numbers-agree}
+use Rattle.list_record_table.specs.laws.Agree.{numbers-agree}
 use Rattle.list_reader.specs.declared.Step.the-variants.{Chunk as Step-chunk}
 use Rattle.list_reader.specs.Reading.{stepIn, stepAt}
-use Rattle.list_reader.specs.Agree.{placeOf, reader-gives}
+use Rattle.list_reader.specs.Agree.{placeBefore}
+use Rattle.list_reader.specs.laws.Agree.{reader-gives}
 
 -- the table of a file, in a lent one with these records
 abbrev pub tableOf : List ℕ → List Record → List Record
@@ -23,7 +24,7 @@ tableOf s old = placed (recordsFor (length old) (readFile s)) old
 -- What place i of the table holds is the record asked for by the number i, and the i-th answer of the reader.
 pub record SameRecord (s : List ℕ) (old : List Record) (i : ℕ) (unused : Record) : Type 0 where
   pub by-number : recordOf s i ≡ Listed-chunk (getD (tableOf s old) i unused)
-  pub by-reader : stepAt s (placeOf s i) ≡ Step-chunk (getD (tableOf s old) i unused)
+  pub by-reader : stepAt s (placeBefore s i) ≡ Step-chunk (getD (tableOf s old) i unused)
 
 pub same-record :
     (s : List ℕ) → Bytes s → (old : List Record) (n e t : ℕ) → answerOf (length old) (checkOf s) ≡ Accepted n e t → (i : ℕ) (unused : Record) → i < n →

@@ -9,32 +9,33 @@ use borrow.Author.Tests.{eq-eqb}
 use native.Mathlib.Nat.{mul-comm, zero-add}
 use native.Mathlib.Omega.{arith}
 use Rattle.iff_tree.specs.declared.Verdict.the-variants.{Accepted}
-use Rattle.iff_tree.specs.Judge.{found, readFile, checkOf}
+use Rattle.iff_tree.specs.Judge.{found, readFile, checkOf, refused}
 use Rattle.ilbm_spec.specs.declared.BitmapHeader.{BitmapHeader}
 use Rattle.ilbm_spec.specs.declared.PictureAnswer.the-variants.{Shown}
 use Rattle.ilbm_spec.specs.Contents.{contentsOf}
-use Rattle.ilbm_spec.specs.Pictures.{Viewed, viewed, unseen, viewOf, pickContent, pictureAnswer, pictureOf, paletteBytes, paletteOf}
-use Rattle.ilbm_spec.specs.Rows.{read, frameRead, linesFrom, frameOf}
+use Rattle.ilbm_spec.specs.Pictures.{Viewed, viewOf, pickContent, pictureAnswer, pictureOf, paletteBytes, paletteOf}
+use Rattle.ilbm_spec.specs.Rows.{frameRead, linesFrom, frameOf}
 use Rattle.write_picture.specs.declared.WriteAnswer.{WriteAnswer}
 use Rattle.write_picture.specs.declared.WriteAnswer.the-variants.{Written}
 use Rattle.write_body.specs.Body.{bodyLines, bodyBytes}
 use Rattle.write_form.specs.File.{pictureForm, pictureFile}
 use Rattle.write_picture.specs.Write.{writeOf, outAfter}
-use Rattle.theorem_roundtrip.specs.Header.{InRange, withoutPad, header-back}
-use Rattle.theorem_roundtrip.specs.Lines.{lines-back}
-use Rattle.theorem_roundtrip.specs.Seen.{contentFor, one-content, pictureFor, picture-told, palette-told, no-fault}
-use Rattle.theorem_roundtrip.specs.Tree.{chunksFor, file-read, file-told}
-use Rattle.theorem_roundtrip.specs.Writable.{Writable, written-writable}
+use Rattle.theorem_roundtrip.specs.Header.{InRange, withoutPad}
+use Rattle.theorem_roundtrip.specs.laws.Header.{header-back}
+use Rattle.theorem_roundtrip.specs.laws.Lines.{lines-back}
+use Rattle.theorem_roundtrip.specs.laws.Seen.{contentFor, one-content, pictureFor, picture-told, palette-told, no-refusal}
+use Rattle.theorem_roundtrip.specs.laws.Tree.{chunksFor, file-read, file-told}
+use Rattle.theorem_roundtrip.specs.laws.Writable.{Writable, written-writable}
 
 -- A file that reads as this picture and holds nothing else.
 pub record ReadsBack (s : List ℕ) (b : BitmapHeader) (palette frame : List ℕ) : Type 0 where
   pub accepted : checkOf s ≡ Accepted (chunksFor palette) (length s) 0
   pub tree : readFile s ≡ found (pictureForm b palette frame)
   pub pictures : length (contentsOf (pictureForm b palette frame)) ≡ 1
-  pub others : (i : ℕ) → viewOf s (suc i) ≡ unseen 20 0
+  pub others : (i : ℕ) → viewOf s (suc i) ≡ refused 20 0
   pub picture : pictureOf s 0 ≡ Shown (pictureFor b palette)
   pub paletteBack : paletteOf s 0 [] ≡ palette
-  pub frameBack : frameOf s 0 (b .w * b .h) ≡ read frame 0
+  pub frameBack : frameOf s 0 (b .w * b .h) ≡ found (frame, 0)
 
 same-lines : (b : BitmapHeader) (frame : List ℕ) (lines : ℕ) → bodyLines (withoutPad b) frame lines ≡ bodyLines b frame lines
 unfolding bodyLines
@@ -42,21 +43,21 @@ same-lines b frame zero = refl
 same-lines b frame (suc lines) = rw (same-lines b (drop (b .w) frame) lines)
 
 module _ (b : BitmapHeader) (palette frame : List ℕ) (room n : ℕ) (range : InRange b) (may : Writable b palette frame room n) where
-  view-back : viewOf (pictureFile b palette frame) 0 ≡ viewed (contentFor b palette frame)
+  view-back : viewOf (pictureFile b palette frame) 0 ≡ found (contentFor b palette frame)
   unfolding pickContent
-  view-back = rw (file-read b palette frame (may .short), one-content b palette frame, no-fault b palette frame room n range may)
+  view-back = rw (file-read b palette frame (may .short), one-content b palette frame, no-refusal b palette frame room n range may)
 
-  no-more : (i : ℕ) → viewOf (pictureFile b palette frame) (suc i) ≡ unseen 20 0
+  no-more : (i : ℕ) → viewOf (pictureFile b palette frame) (suc i) ≡ refused 20 0
   unfolding pickContent
   no-more i = rw (file-read b palette frame (may .short), one-content b palette frame)
 
-  lines-read : linesFrom (withoutPad b) (bodyBytes b frame) (b .h) 0 ≡ read frame (length (bodyBytes b frame))
+  lines-read : linesFrom (withoutPad b) (bodyBytes b frame) (b .h) 0 ≡ found (frame, (length (bodyBytes b frame)))
   lines-read =
       let e : length frame ≡ b .h * b .w = may .whole ∙ mul-comm (b .w) (b .h) in
       let all = lines-back (withoutPad b) (may .unmasked) (b .h) frame [] [] e (may .colours) in
       rw (append-nil (bodyLines (withoutPad b) frame (b .h)), same-lines b frame (b .h), zero-add (length (bodyLines b frame (b .h)))) at all
 
-  frame-read : frameRead (viewed (contentFor b palette frame)) (b .w * b .h) ≡ read frame 0
+  frame-read : frameRead (found (contentFor b palette frame)) (b .w * b .h) ≡ found (frame, 0)
   frame-read =
       let none : length (bodyBytes b frame) - length (bodyBytes b frame) ≡ 0 = omega arith in
       rw (header-back b range, eq-eqb (b .w * b .h) (b .w * b .h) refl, lines-read, none)

@@ -6,7 +6,8 @@ use lib.ListN.{length}
 use native.Mathlib.Nat.{pow-suc}
 use native.Mathlib.Numerals.{add-one}
 use native.Mathlib.Omega.{arith}
-use Rattle.byterun_pack.specs.Written.{writtenRow, written-short}
+use Rattle.byterun_pack.specs.Written.{writtenRow}
+use Rattle.byterun_pack.specs.laws.Written.{written-short}
 use Rattle.write_plane_row.specs.Planes.{planeRow}
 use Rattle.write_body.specs.Body.{lineRows}
 use Rattle.write_plane_row.proofs.Buffers.{Split}

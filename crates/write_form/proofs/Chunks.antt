@@ -9,9 +9,10 @@ use native.Mathlib.Nat.{add-zero}
 use native.Mathlib.Omega.{arith}
 use Rattle.iff_chunk.specs.Chunks.{putWord}
 use Rattle.ilbm_spec.specs.declared.BitmapHeader.{BitmapHeader}
-use Rattle.ilbm_spec.specs.Contents.{ILBM, BMHD, CMAP}
+use Rattle.ilbm_spec.specs.Names.{ILBM, BMHD, CMAP}
 use Rattle.write_plane_row.specs.Put.{put}
-use Rattle.write_form.specs.Parts.{chunkHead, paletteChunk, typeAndHeader, paletteSize, header-length}
+use Rattle.write_form.specs.Parts.{chunkHead, paletteChunk, typeAndHeader, paletteSize}
+use Rattle.write_form.specs.laws.Parts.{header-length}
 use Rattle.write_form.specs.File.{headerBytes, unsigned}
 use Rattle.write_plane_row.proofs.Buffers.{put-none, put-next, put-put}
 

@@ -8,11 +8,13 @@ use lib.ListN.{length, replicate, length-append, length-replicate}
 use native.Mathlib.Omega.{arith}
 use Rattle.iff_name.specs.Name.{pick}
 use Rattle.ilbm_spec.specs.declared.BitmapHeader.{BitmapHeader}
-use Rattle.ilbm_spec.specs.Contents.{FORM, BODY}
+use Rattle.iff_name.specs.Codes.{FORM}
+use Rattle.ilbm_spec.specs.Names.{BODY}
 use Rattle.write_plane_row.specs.Put.{put, Room}
 use Rattle.write_body.specs.Body.{bodyBytes}
 use Rattle.write_form.specs.File.{pictureFile}
-use Rattle.write_form.specs.Parts.{chunkHead, paletteChunk, typeAndHeader, paletteSize, header-length, palette-length, file-parts, file-length}
+use Rattle.write_form.specs.Parts.{chunkHead, paletteChunk, typeAndHeader, paletteSize}
+use Rattle.write_form.specs.laws.Parts.{header-length, palette-length, file-parts, file-length}
 use Rattle.write_plane_row.proofs.Buffers.{put-put}
 
 pub palette-small : (n colours : ℕ) → n ≤ 768 → colours ≡ paletteSize n → colours ≤ 777

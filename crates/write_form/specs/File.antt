@@ -5,7 +5,8 @@ use lib.IntN.{ℤ, pos, negsuc}
 use lib.ListN.{length, replicate}
 use Rattle.iff_chunk.specs.Chunks.{Chunks, none, leaf, Chunk, aGroup, before, bytes}
 use Rattle.ilbm_spec.specs.declared.BitmapHeader.{BitmapHeader}
-use Rattle.ilbm_spec.specs.Contents.{FORM, ILBM, BMHD, CMAP, BODY}
+use Rattle.iff_name.specs.Codes.{FORM}
+use Rattle.ilbm_spec.specs.Names.{ILBM, BMHD, CMAP, BODY}
 use Rattle.write_body.specs.Body.{bodyBytes}
 
 -- ---- the header

@@ -1,17 +1,14 @@
 -- The parts of the written file in their order, and their lengths: what the code settles before it writes, and what it writes.
 use Prim.Native.Nat.{ℕ, _+_, _%_}
-use mathlib.Core.Path.{_≡_, refl, _∙_}
-use mathlib.Core.List.{List, [], _∷_, _++_, append-assoc, append-nil}
+use mathlib.Core.List.{List, [], _∷_, _++_}
 use lib.Dec.{eqb}
-use lib.ListN.{length, length-append, length-replicate}
-use borrow.Author.Tests.{ne-eqb}
-use native.Mathlib.Omega.{arith}
+use lib.ListN.{length}
 use Rattle.iff_name.specs.Name.{pick}
-use Rattle.iff_chunk.specs.Chunks.{Chunks, none, group, putWord, bytes}
+use Rattle.iff_chunk.specs.Chunks.{putWord, bytes}
 use Rattle.ilbm_spec.specs.declared.BitmapHeader.{BitmapHeader}
-use Rattle.ilbm_spec.specs.Contents.{FORM, ILBM, BMHD, CMAP, BODY}
-use Rattle.write_body.specs.Body.{bodyBytes}
-use Rattle.write_form.specs.File.{headerBytes, padOf, membersFor, pictureFile}
+use Rattle.iff_name.specs.Codes.{FORM}
+use Rattle.ilbm_spec.specs.Names.{ILBM, BMHD, CMAP, BODY}
+use Rattle.write_form.specs.File.{headerBytes, padOf}
 
 -- the header of a chunk
 abbrev pub chunkHead : ℕ → ℕ → List ℕ
@@ -41,49 +38,3 @@ paletteSize n = pick (eqb n 0) 0 (8 + n + n % 2)
 -- the length of the file after FORM's own header, for a palette and a BODY of so many bytes
 abbrev pub formSize : ℕ → ℕ → ℕ
 formSize palette body = 40 + paletteSize palette + body + body % 2
-
-pub header-length : (b : BitmapHeader) → length (headerBytes b) ≡ 20
-unfolding headerBytes
-header-length b = refl
-
-pub chunk-length : (name : ℕ) (d : List ℕ) → length (chunkBytes name d) ≡ 8 + length d + length d % 2
-chunk-length name d = simp (length-append, length-replicate) (omega arith)
-
-pub palette-length : (palette : List ℕ) → length (paletteChunk palette) ≡ paletteSize (length palette)
-palette-length [] = refl
-palette-length (x ∷ xs) = rw (ne-eqb (length (x ∷ xs)) 0 (λ e. omega arith)) (chunk-length CMAP (x ∷ xs))
-
-members-are :
-    (b : BitmapHeader) (palette body : List ℕ) → bytes (membersFor b palette body) ≡ putWord BMHD (putWord 20 (headerBytes b ++ (paletteChunk palette ++ chunkBytes BODY body)))
-unfolding bytes headerBytes
-members-are b [] body = simp append-nil
-members-are b (x ∷ xs) body = simp (append-nil, append-assoc)
-
-members-length : (b : BitmapHeader) (palette body : List ℕ) → 4 + length (bytes (membersFor b palette body)) ≡ formSize (length palette) (length body)
-members-length b palette body =
-    rw (members-are b palette body)
-    (simp (length-append, header-length b, palette-length palette, length-replicate) (omega arith))
-
-form-bytes : (G : Chunks) → bytes (group FORM ILBM G none) ≡ putWord FORM (putWord (4 + length (bytes G)) (putWord ILBM (bytes G)))
-unfolding bytes
-form-bytes G = simp append-nil
-
--- the file is its head, CMAP and BODY
-pub file-parts :
-    (b : BitmapHeader) (palette frame : List ℕ) →
-    pictureFile b palette frame
-    ≡ fileHead b (formSize (length palette) (length (bodyBytes b frame))) ++ (paletteChunk palette ++ chunkBytes BODY (bodyBytes b frame))
-unfolding pictureFile
-file-parts b palette frame =
-    form-bytes (membersFor b palette (bodyBytes b frame))
-    ∙ rw (members-length b palette (bodyBytes b frame), members-are b palette (bodyBytes b frame)) (head-joins (headerBytes b) _)
-  where
-    head-joins : (h r : List ℕ) → putWord FORM (putWord (formSize (length palette) (length (bodyBytes b frame))) (putWord ILBM (putWord BMHD (putWord 20 (h ++ r)))))
-        ≡ putWord FORM (putWord (formSize (length palette) (length (bodyBytes b frame))) (putWord ILBM (putWord BMHD (putWord 20 h)))) ++ r
-    head-joins h r = refl
-
-pub file-length :
-    (b : BitmapHeader) (palette frame : List ℕ) → length (pictureFile b palette frame) ≡ 8 + formSize (length palette) (length (bodyBytes b frame))
-file-length b palette frame =
-    rw (file-parts b palette frame)
-    (simp (length-append, header-length b, palette-length palette, length-replicate) (omega arith))

@@ -46,9 +46,9 @@ abbrev pub outAfter : WriteAnswer → List ℕ → List ℕ → List ℕ
 outAfter (Written n) file out = file ++ drop n out
 outAfter (Refused k) file out = out
 
-abbrev pub numberOf : WriteAnswer → ℕ
-numberOf (Written n) = 0
-numberOf (Refused k) = k
+abbrev pub writeNumber : WriteAnswer → ℕ
+writeNumber (Written n) = 0
+writeNumber (Refused k) = k
 
 abbrev pub lengthOf : WriteAnswer → ℕ
 lengthOf (Written n) = n

@@ -1,5 +1,5 @@
 -- By the cases of the extent: its two places are stored, or 0 beside a refusal.
-use Rattle.export_chunk.proofs.Told.{data-lies, data-refused}
+use Rattle.export_chunk.proofs.Numbers.{data-lies, data-refused}
 use borrow.Author.Needs.{needs}
 use Rattle.export_chunk.proofs.iff_data.Statement.{statement}
 use Rattle.export_chunk.proofs.iff_data.Tie as tie

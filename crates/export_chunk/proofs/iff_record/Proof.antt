@@ -1,5 +1,5 @@
 -- By the cases of the answer: the fields of the record are stored, or 0 beside a refusal.
-use Rattle.export_chunk.proofs.Told.{record-listed, record-refused}
+use Rattle.export_chunk.proofs.Numbers.{record-listed, record-refused}
 use borrow.Author.Needs.{needs}
 use Rattle.export_chunk.proofs.iff_record.Statement.{statement}
 use Rattle.export_chunk.proofs.iff_record.Tie as tie

@@ -1,5 +1,5 @@
 -- By the cases of the verdict: its values are stored, or 0 beside a refusal.
-use Rattle.export_file.proofs.Told.{check-accepted, check-refused}
+use Rattle.export_file.proofs.Numbers.{check-accepted, check-refused}
 use borrow.Author.Needs.{needs}
 use Rattle.export_file.proofs.iff_check.Statement.{statement}
 use Rattle.export_file.proofs.iff_check.Tie as tie

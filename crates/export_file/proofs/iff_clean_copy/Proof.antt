@@ -1,5 +1,5 @@
 -- By the cases of the answer of `clean_copy`, which settles the buffer.
-use Rattle.export_file.proofs.Told.{copy-written, copy-refused}
+use Rattle.export_file.proofs.Numbers.{copy-written, copy-refused}
 use borrow.Author.Needs.{needs}
 use Rattle.export_file.proofs.iff_clean_copy.Statement.{statement}
 use Rattle.export_file.proofs.iff_clean_copy.Tie as tie

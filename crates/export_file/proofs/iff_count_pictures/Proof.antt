@@ -1,5 +1,5 @@
 -- By the cases of the answer of `count_pictures`: the count is stored, or 0 beside a refusal.
-use Rattle.export_file.proofs.Told.{pictures-counted, count-refused}
+use Rattle.export_file.proofs.Numbers.{pictures-counted, count-refused}
 use borrow.Author.Needs.{needs}
 use Rattle.export_file.proofs.iff_count_pictures.Statement.{statement}
 use Rattle.export_file.proofs.iff_count_pictures.Tie as tie

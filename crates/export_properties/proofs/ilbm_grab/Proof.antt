@@ -6,14 +6,14 @@ use Rattle.export_properties.proofs.ilbm_grab.Tie as tie
 picture-requires : tie.Need-picture-requires
 picture-requires c κs = tt
 
-grab-told-requires : tie.Need-grab-told-requires
-grab-told-requires c κs = tt
+grab-numbers-requires : tie.Need-grab-numbers-requires
+grab-numbers-requires c κs = tt
 
 returns : tie.Need-returns
 returns c =
-    let told = c .before .before .before in
+    let numbers = c .before .before .before in
     let g = c .struct-told2 .given in
-    grab-stored _ _ (told .before .picture .ensures) _ (told .grab-told .ensures) (record { sfits = g .0 .1 }) (record { sfits = g .1 .0 .1 })
+    grab-stored _ _ (numbers .before .picture .ensures) _ (numbers .grab-numbers .ensures) (record { sfits = g .0 .1 }) (record { sfits = g .1 .0 .1 })
 
 pub ilbm-grab-spec : {M : Type 1} → statement M
-ilbm-grab-spec = tie.close (tie.spec picture-requires grab-told-requires returns)
+ilbm-grab-spec = tie.close (tie.spec picture-requires grab-numbers-requires returns)

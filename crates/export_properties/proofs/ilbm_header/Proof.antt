@@ -6,16 +6,16 @@ use Rattle.export_properties.proofs.ilbm_header.Tie as tie
 picture-requires : tie.Need-picture-requires
 picture-requires c κs = tt
 
-header-told-requires : tie.Need-header-told-requires
-header-told-requires c κs = tt
+header-numbers-requires : tie.Need-header-numbers-requires
+header-numbers-requires c κs = tt
 
 returns : tie.Need-returns
 returns c =
-    let told = c .before .before .before .before .before in
+    let numbers = c .before .before .before .before .before in
     let g = c .struct-told4 .given in
-    header-stored _ _ (told .before .picture .ensures) _ (told .header-told .ensures) (record { sfits = g .1 .1 .0 .1 }) (record { sfits = g .1 .1 .1 .0 .1 })
+    header-stored _ _ (numbers .before .picture .ensures) _ (numbers .header-numbers .ensures) (record { sfits = g .1 .1 .0 .1 }) (record { sfits = g .1 .1 .1 .0 .1 })
     (record { sfits = g .1 .1 .1 .1 .1 .1 .1 .1 .1 .1 .1 .0 .1 })
     (record { sfits = g .1 .1 .1 .1 .1 .1 .1 .1 .1 .1 .1 .1 .0 .1 })
 
 pub ilbm-header-spec : {M : Type 1} → statement M
-ilbm-header-spec = tie.close (tie.spec picture-requires header-told-requires returns)
+ilbm-header-spec = tie.close (tie.spec picture-requires header-numbers-requires returns)

@@ -1,5 +1,5 @@
 -- By the cases of the answer of `whole_frame`, which settles the bytes that were lent.
-use Rattle.export_rows.proofs.Told.{frame-left, frame-refused}
+use Rattle.export_rows.proofs.Numbers.{frame-left, frame-refused}
 use borrow.Author.Needs.{needs}
 use Rattle.export_rows.proofs.ilbm_frame.Statement.{statement}
 use Rattle.export_rows.proofs.ilbm_frame.Tie as tie

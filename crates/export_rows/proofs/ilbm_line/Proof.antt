@@ -1,5 +1,5 @@
 -- By the cases of the answer of `scan_line`, which settles the bytes that were lent.
-use Rattle.export_rows.proofs.Told.{line-next, line-refused}
+use Rattle.export_rows.proofs.Numbers.{line-next, line-refused}
 use borrow.Author.Needs.{needs}
 use Rattle.export_rows.proofs.ilbm_line.Statement.{statement}
 use Rattle.export_rows.proofs.ilbm_line.Tie as tie

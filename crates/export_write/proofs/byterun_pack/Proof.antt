@@ -1,6 +1,6 @@
 -- By the cases of the answer of `pack_row`, which settles the buffer.
 use borrow.Author.Needs.{needs}
-use Rattle.export_write.proofs.Told.{pack-written, pack-bad-length, pack-no-room}
+use Rattle.export_write.proofs.Numbers.{pack-written, pack-bad-length, pack-no-room}
 use Rattle.export_write.proofs.byterun_pack.Statement.{statement}
 use Rattle.export_write.proofs.byterun_pack.Tie as tie
 

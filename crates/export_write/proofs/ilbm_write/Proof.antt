@@ -1,5 +1,5 @@
 -- The header has the fields that were handed over; by the cases of the answer of `write_picture`, which settles the buffer.
-use Rattle.export_write.proofs.Told.{header-handed, picture-written, picture-refused}
+use Rattle.export_write.proofs.Numbers.{header-handed, picture-written, picture-refused}
 use borrow.Author.Needs.{needs}
 use Rattle.export_write.proofs.ilbm_write.Statement.{statement}
 use Rattle.export_write.proofs.ilbm_write.Tie as tie

@@ -4,7 +4,7 @@
 use Prim.Native.Nat.{ℕ, _+_, _-_, _*_, _≤_, _<_}
 use mathlib.Core.Path.{refl}
 use borrow.Author.Needs.{needs}
-use Rattle.iff_tree.specs.Judge.{chunkAt, membersOf, toldAll}
+use Rattle.iff_tree.specs.Judge.{chunkAt, membersOf, walkedOf}
 use Rattle.iff_tree.proofs.WalkLaws.{Runs, walk-laws, member-leaf, leaf-ahead}
 use Rattle.iff_repeated_props.proofs.RepeatLaws.{OnWay}
 use Rattle.iff_tree.proofs.WayLaws.{way-laws}
@@ -111,7 +111,7 @@ enter-returns-2 : (t : ℕ) → enter-lts.Need-returns-2 (enter-calls t) (enter-
 enter-returns-2 t c = search (walk-laws, needs)
 
 abbrev group-Inv-loop : group-lts.InvT-loop
-group-Inv-loop s from e levels n fresh p₀ count₀ at₀ p count at = (p ≤ e) × (count ≤ p) × OnWay s from p × Runs (chunkAt levels s from) s at p e count (toldAll n (membersOf levels s from at₀ from e))
+group-Inv-loop s from e levels n fresh p₀ count₀ at₀ p count at = (p ≤ e) × (count ≤ p) × OnWay s from p × Runs (chunkAt levels s from) s at p e count (walkedOf n (membersOf levels s from at₀ from e))
 
 abbrev group-μ-loop : group-lts.MeasureT-loop
 group-μ-loop s from e levels n fresh p₀ count₀ at₀ p count at = e - p

@@ -3,7 +3,7 @@
 use native.Mathlib.Omega.{arith}
 use Rattle.ilbm_properties.proofs.Laws.{bmhd-right}
 use borrow.Author.Needs.{needs}
-use Rattle.ilbm_body_rows.proofs.Laws.{body-order, body-inside, frame-28, frame-left, frame-fault, planes-8, pixels-fit}
+use Rattle.ilbm_body_rows.proofs.Laws.{body-order, body-inside, frame-28, frame-left, frame-refusal, planes-8, pixels-fit}
 use Rattle.ilbm_body_rows.proofs.body_frame.Statement.{statement}
 use Rattle.ilbm_body_rows.proofs.body_frame.Tie as tie
 
@@ -60,7 +60,7 @@ same-length-2 : tie.Need-same-length-2
 same-length-2 c = search needs
 
 returns-3 : tie.Need-returns-3
-returns-3 c = search (frame-fault, needs)
+returns-3 c = search (frame-refusal, needs)
 
 pub body-frame-spec : {M : Type 1} → statement M
 body-frame-spec =

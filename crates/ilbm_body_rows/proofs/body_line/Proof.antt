@@ -3,7 +3,7 @@
 use native.Mathlib.Omega.{arith}
 use Rattle.ilbm_properties.proofs.Laws.{bmhd-right}
 use borrow.Author.Needs.{needs}
-use Rattle.ilbm_body_rows.proofs.Laws.{body-order, body-inside, line-29, line-28, line-next, line-fault, planes-8}
+use Rattle.ilbm_body_rows.proofs.Laws.{body-order, body-inside, line-29, line-28, line-next, line-refusal, planes-8}
 use Rattle.ilbm_body_rows.proofs.body_line.Statement.{statement}
 use Rattle.ilbm_body_rows.proofs.body_line.Tie as tie
 
@@ -67,7 +67,7 @@ returns-4 c =
     let n = r .before .before .before .before .before in
     let h = n .before .before in
     let e = h .before .before in
-    line-fault _ _ _ _ (e .before .before .before .pre .1) _ _ (e .if1 .left) _ (h .header-of .ensures) (n .if2 .left) _ _ (r .scan-row .ensures .0) (r .scan-row .ensures .1) _ _ (c .before .scanned2 .given .1)
+    line-refusal _ _ _ _ (e .before .before .before .pre .1) _ _ (e .if1 .left) _ (h .header-of .ensures) (n .if2 .left) _ _ (r .scan-row .ensures .0) (r .scan-row .ensures .1) _ _ (c .before .scanned2 .given .1)
 
 pub body-line-spec : {M : Type 1} → statement M
 body-line-spec =

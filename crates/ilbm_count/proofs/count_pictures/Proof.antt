@@ -1,7 +1,7 @@
 -- What the check accepts is sound, so that it can be counted; what it refuses is passed on.
 use mathlib.Core.Path.{sym, _∙_}
 use native.Mathlib.Omega.{arith}
-use Rattle.iff_walk.specs.Coming.{accepted-sound}
+use Rattle.iff_walk.specs.laws.Coming.{accepted-sound}
 use Rattle.ilbm_count.proofs.Laws.{count-refused}
 use borrow.Author.Needs.{needs}
 use Rattle.ilbm_count.proofs.count_pictures.Statement.{statement}

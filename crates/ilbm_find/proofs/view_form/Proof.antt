@@ -22,8 +22,8 @@ add-content-at c = search needs
 content-at-requires : tie.Need-content-at-requires
 content-at-requires c κs = search (form-row, form-scoped, needs)
 
-fault-requires : tie.Need-fault-requires
-fault-requires c κs = search (form-full, needs)
+refusal-requires : tie.Need-refusal-requires
+refusal-requires c κs = search (form-full, needs)
 
 returns : tie.Need-returns
 returns c = search (form-seen, needs)
@@ -41,6 +41,6 @@ view-form-spec =
     add-end-2
     add-content-at
     content-at-requires
-    fault-requires
+    refusal-requires
     returns
     returns-2)

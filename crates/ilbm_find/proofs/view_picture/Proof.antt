@@ -1,7 +1,7 @@
 -- What the check accepts is sound, so that the picture can be looked for; what it refuses is passed on.
 use mathlib.Core.Path.{sym, _∙_}
 use native.Mathlib.Omega.{arith}
-use Rattle.iff_walk.specs.Coming.{accepted-sound}
+use Rattle.iff_walk.specs.laws.Coming.{accepted-sound}
 use Rattle.ilbm_find.proofs.ViewLaws.{view-refused}
 use borrow.Author.Needs.{needs}
 use Rattle.ilbm_find.proofs.view_picture.Statement.{statement}

@@ -3,7 +3,7 @@ use Prim.Native.Nat.{ℕ}
 use native.Mathlib.Omega.{arith}
 use lib.ListN.{length-replicate}
 use borrow.Author.Needs.{needs}
-use Rattle.ilbm_scan_frame.proofs.Frame.{frame-judged, frame-rows-fit, frame-read, frame-fault}
+use Rattle.ilbm_scan_frame.proofs.Frame.{frame-judged, frame-rows-fit, frame-read, frame-refusal}
 use Rattle.ilbm_plane_rows.proofs.Lines.{rows-room}
 use Rattle.ilbm_scan_frame.proofs.scan_frame.Statement.{statement}
 use Rattle.ilbm_scan_frame.proofs.scan_frame.Tie as tie
@@ -47,7 +47,7 @@ returns-2 : tie.Need-returns-2
 returns-2 c =
     let a = c .before in
     let s = a .before .before .before .before .before .before .before .args in
-    frame-fault _ _ (s .planes) _ _ (s .h) _ (a .before .before .before .before .row-length .ensures .0) _ (a .before .before .judge-rows .ensures) _ (a .before .before .before .row-count .ensures .0) (s .frame .now) _ _ (a .judged2 .given .1)
+    frame-refusal _ _ (s .planes) _ _ (s .h) _ (a .before .before .before .before .row-length .ensures .0) _ (a .before .before .judge-rows .ensures) _ (a .before .before .before .row-count .ensures .0) (s .frame .now) _ _ (a .judged2 .given .1)
 
 pub scan-frame-spec : {M : Type 1} → statement M
 scan-frame-spec =

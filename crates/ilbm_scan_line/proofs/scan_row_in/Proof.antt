@@ -1,7 +1,7 @@
 -- `scan_row_in` meets its contract: a line whose rows were judged sound may be written, and a fault leaves the row.
 use native.Mathlib.Omega.{arith}
 use borrow.Author.Needs.{needs}
-use Rattle.ilbm_plane_rows.proofs.Lines.{lines, count-room, line-read, line-fault}
+use Rattle.ilbm_plane_rows.proofs.Lines.{lines, count-room, line-read, line-refusal}
 use Rattle.ilbm_scan_line.proofs.scan_row_in.Statement.{statement}
 use Rattle.ilbm_scan_line.proofs.scan_row_in.Tie as tie
 
@@ -40,7 +40,7 @@ returns-2 : tie.Need-returns-2
 returns-2 c =
     let a = c .before in
     let s = a .before .before .before .before .before .before .before .before .args in
-    line-fault _ _ _ (s .planes) _ _ _ (a .before .before .before .before .row-length .ensures .0) _ (a .before .before .judge-rows .ensures) _ (a .before .before .before .row-count .ensures .0) (s .row .now) _ _ (a .judged2 .given .1)
+    line-refusal _ _ _ (s .planes) _ _ _ (a .before .before .before .before .row-length .ensures .0) _ (a .before .before .judge-rows .ensures) _ (a .before .before .before .row-count .ensures .0) (s .row .now) _ _ (a .judged2 .given .1)
 
 pub scan-row-in-spec : {M : Type 1} → statement M
 scan-row-in-spec =

@@ -2,7 +2,7 @@
 use Prim.Native.Nat.{_≤_}
 use native.Mathlib.Omega.{arith}
 use borrow.Author.Needs.{needs}
-use Rattle.list_columns.specs.Columns.{numberOf, levelOf, kindNumberOf, nameOf, placeOf, sizeOf}
+use Rattle.list_columns.specs.Columns.{recordNumber, levelOf, kindNumberOf, nameOf, recordPlace, sizeOf}
 use Rattle.list_column_table.specs.Table.{roomOf}
 use Rattle.list_column_table.proofs.TableLaws.{answered, ready, enough, all-put}
 use Rattle.list_column_table.proofs.fill_table.Statement.{statement}
@@ -57,11 +57,11 @@ returns c =
     let all = all-put s m (short .result) _ (ans .result) (short .ensures) (ans .ensures .0) (to .to-put .ensures) in
     record {
       answer = answered s m (short .result) _ (ans .result) (short .ensures) (ans .ensures .0) (to .to-put .ensures);
-      numbers-are = all numberOf (a .args .numbers .now) _ (put .ensures .0);
+      numbers-are = all recordNumber (a .args .numbers .now) _ (put .ensures .0);
       levels-are = all levelOf (a .args .levels .now) _ (put .ensures .1);
       kinds-are = all kindNumberOf (a .args .kinds .now) _ (put .ensures .2);
       names-are = all nameOf (a .args .names .now) _ (put .ensures .3);
-      places-are = all placeOf (a .args .places .now) _ (put .ensures .4);
+      places-are = all recordPlace (a .args .places .now) _ (put .ensures .4);
       sizes-are = all sizeOf (a .args .sizes .now) _ (put .ensures .5);
     }
 

@@ -5,18 +5,18 @@ use mathlib.Core.List.{List}
 use native.Mathlib.Omega.{arith}
 use borrow.Author.Needs.{needs}
 use Rattle.list_cursor.specs.Cursors.{Located}
-use Rattle.list_columns.specs.Columns.{numberOf, levelOf, kindNumberOf, nameOf, placeOf, sizeOf}
+use Rattle.list_columns.specs.Columns.{recordNumber, levelOf, kindNumberOf, nameOf, recordPlace, sizeOf}
 use Rattle.list_columns.proofs.ColumnLaws.{start-located, start-below, turn, partly, starts, goes-on, same-room, at-end}
 use Rattle.list_columns.proofs.put_records.Statement.{statement}
 use Rattle.list_columns.proofs.put_records.Tie as tie
 
 -- the columns, each partly filled
 record Columns (s : List ℕ) (n : ℕ) (numbers₀ numbers levels₀ levels kinds₀ kinds names₀ names places₀ places sizes₀ sizes : List ℕ) : Type 0 where
-  numbers-filled : numbers ≡ partly numberOf s n numbers₀
+  numbers-filled : numbers ≡ partly recordNumber s n numbers₀
   levels-filled : levels ≡ partly levelOf s n levels₀
   kinds-filled : kinds ≡ partly kindNumberOf s n kinds₀
   names-filled : names ≡ partly nameOf s n names₀
-  places-filled : places ≡ partly placeOf s n places₀
+  places-filled : places ≡ partly recordPlace s n places₀
   sizes-filled : sizes ≡ partly sizeOf s n sizes₀
 
 abbrev Inv-loop : tie.InvT-loop
@@ -36,11 +36,11 @@ loop-holds c =
       start-located s _ (c .first .result) (a .pre .0) (c .first .ensures),
       start-below (c .first .result) _ (c .first .ensures),
       record {
-        numbers-filled = starts numberOf s (c .first .result) (a .args .numbers .now) (c .first .ensures);
+        numbers-filled = starts recordNumber s (c .first .result) (a .args .numbers .now) (c .first .ensures);
         levels-filled = starts levelOf s (c .first .result) (a .args .levels .now) (c .first .ensures);
         kinds-filled = starts kindNumberOf s (c .first .result) (a .args .kinds .now) (c .first .ensures);
         names-filled = starts nameOf s (c .first .result) (a .args .names .now) (c .first .ensures);
-        places-filled = starts placeOf s (c .first .result) (a .args .places .now) (c .first .ensures);
+        places-filled = starts recordPlace s (c .first .result) (a .args .places .now) (c .first .ensures);
         sizes-filled = starts sizeOf s (c .first .result) (a .args .sizes .now) (c .first .ensures);
       },
     )
@@ -57,11 +57,11 @@ put-record-requires c κs =
     let more : k .loop .cur .number < a .args .n = c .before .before .before .before .before .before .before .if1 .taken in
     let s = a .args .s .now in
     let i = k .loop .cur .number in (
-      omega (arith, same-room numberOf s i (a .args .numbers .now) (k .loop .numbers) (k .loop .inv .2 .numbers-filled), a .pre .1 .0),
+      omega (arith, same-room recordNumber s i (a .args .numbers .now) (k .loop .numbers) (k .loop .inv .2 .numbers-filled), a .pre .1 .0),
       omega (arith, same-room levelOf s i (a .args .levels .now) (k .loop .levels) (k .loop .inv .2 .levels-filled), a .pre .1 .1),
       omega (arith, same-room kindNumberOf s i (a .args .kinds .now) (k .loop .kinds) (k .loop .inv .2 .kinds-filled), a .pre .1 .2),
       omega (arith, same-room nameOf s i (a .args .names .now) (k .loop .names) (k .loop .inv .2 .names-filled), a .pre .1 .3),
-      omega (arith, same-room placeOf s i (a .args .places .now) (k .loop .places) (k .loop .inv .2 .places-filled), a .pre .1 .4),
+      omega (arith, same-room recordPlace s i (a .args .places .now) (k .loop .places) (k .loop .inv .2 .places-filled), a .pre .1 .4),
       omega (arith, same-room sizeOf s i (a .args .sizes .now) (k .loop .sizes) (k .loop .inv .2 .sizes-filled), a .pre .1 .5),
     )
 
@@ -88,11 +88,11 @@ loop-again c =
       λ _. c .advance .ensures .0,
       omega (arith, c .advance .ensures .1),
       record {
-        numbers-filled = goes-on numberOf s i (c .advance .result .number) (r .result) (a .args .numbers .now) (k .loop .numbers) _ (r .ensures) (c .advance .ensures .1) (k .loop .inv .2 .numbers-filled) (put .ensures .0);
+        numbers-filled = goes-on recordNumber s i (c .advance .result .number) (r .result) (a .args .numbers .now) (k .loop .numbers) _ (r .ensures) (c .advance .ensures .1) (k .loop .inv .2 .numbers-filled) (put .ensures .0);
         levels-filled = goes-on levelOf s i (c .advance .result .number) (r .result) (a .args .levels .now) (k .loop .levels) _ (r .ensures) (c .advance .ensures .1) (k .loop .inv .2 .levels-filled) (put .ensures .1);
         kinds-filled = goes-on kindNumberOf s i (c .advance .result .number) (r .result) (a .args .kinds .now) (k .loop .kinds) _ (r .ensures) (c .advance .ensures .1) (k .loop .inv .2 .kinds-filled) (put .ensures .2);
         names-filled = goes-on nameOf s i (c .advance .result .number) (r .result) (a .args .names .now) (k .loop .names) _ (r .ensures) (c .advance .ensures .1) (k .loop .inv .2 .names-filled) (put .ensures .3);
-        places-filled = goes-on placeOf s i (c .advance .result .number) (r .result) (a .args .places .now) (k .loop .places) _ (r .ensures) (c .advance .ensures .1) (k .loop .inv .2 .places-filled) (put .ensures .4);
+        places-filled = goes-on recordPlace s i (c .advance .result .number) (r .result) (a .args .places .now) (k .loop .places) _ (r .ensures) (c .advance .ensures .1) (k .loop .inv .2 .places-filled) (put .ensures .4);
         sizes-filled = goes-on sizeOf s i (c .advance .result .number) (r .result) (a .args .sizes .now) (k .loop .sizes) _ (r .ensures) (c .advance .ensures .1) (k .loop .inv .2 .sizes-filled) (put .ensures .5);
       },
     )
@@ -100,7 +100,7 @@ loop-again c =
 same-length : tie.Need-same-length Inv-loop μ-loop
 same-length c =
     let k = c .before .before in
-    same-room numberOf (k .before .before .before .before .before .before .before .before .before .args .s .now) (k .loop .cur .number) (k .before .before .before .before .before .before .before .before .before .args .numbers .now) (k .loop .numbers) (k .loop .inv .2 .numbers-filled)
+    same-room recordNumber (k .before .before .before .before .before .before .before .before .before .args .s .now) (k .loop .cur .number) (k .before .before .before .before .before .before .before .before .before .args .numbers .now) (k .loop .numbers) (k .loop .inv .2 .numbers-filled)
 
 same-length-2 : tie.Need-same-length-2 Inv-loop μ-loop
 same-length-2 c =
@@ -120,7 +120,7 @@ same-length-4 c =
 same-length-5 : tie.Need-same-length-5 Inv-loop μ-loop
 same-length-5 c =
     let k = c .before .before in
-    same-room placeOf (k .before .before .before .before .before .before .before .before .before .args .s .now) (k .loop .cur .number) (k .before .before .before .before .before .before .before .before .before .args .places .now) (k .loop .places) (k .loop .inv .2 .places-filled)
+    same-room recordPlace (k .before .before .before .before .before .before .before .before .before .args .s .now) (k .loop .cur .number) (k .before .before .before .before .before .before .before .before .before .args .places .now) (k .loop .places) (k .loop .inv .2 .places-filled)
 
 same-length-6 : tie.Need-same-length-6 Inv-loop μ-loop
 same-length-6 c =
@@ -134,11 +134,11 @@ returns c =
     let s = a .args .s .now in
     let left : a .args .n ≤ k .loop .cur .number = c .if1 .left in
     let all : k .loop .cur .number ≡ a .args .n = omega (arith, k .loop .inv .1) in (
-      at-end numberOf s _ _ (a .args .numbers .now) (k .loop .numbers) all (k .loop .inv .2 .numbers-filled),
+      at-end recordNumber s _ _ (a .args .numbers .now) (k .loop .numbers) all (k .loop .inv .2 .numbers-filled),
       at-end levelOf s _ _ (a .args .levels .now) (k .loop .levels) all (k .loop .inv .2 .levels-filled),
       at-end kindNumberOf s _ _ (a .args .kinds .now) (k .loop .kinds) all (k .loop .inv .2 .kinds-filled),
       at-end nameOf s _ _ (a .args .names .now) (k .loop .names) all (k .loop .inv .2 .names-filled),
-      at-end placeOf s _ _ (a .args .places .now) (k .loop .places) all (k .loop .inv .2 .places-filled),
+      at-end recordPlace s _ _ (a .args .places .now) (k .loop .places) all (k .loop .inv .2 .places-filled),
       at-end sizeOf s _ _ (a .args .sizes .now) (k .loop .sizes) all (k .loop .inv .2 .sizes-filled),
     )
 

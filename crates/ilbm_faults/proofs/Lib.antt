@@ -1,2 +1,0 @@
-pub mod FaultLaws
-pub mod Laws

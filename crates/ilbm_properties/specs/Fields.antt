@@ -1,0 +1,41 @@
+-- What the properties of a picture that is not refused tell.
+use Prim.Native.Nat.{ℕ}
+use mathlib.Core.Path.{_≡_}
+use mathlib.Core.Bool.{false}
+use mathlib.Core.List.{List}
+use Rattle.iff_chunk.specs.Chunks.{word}
+use Rattle.ilbm_spec.specs.declared.HotSpot.{HotSpot}
+use Rattle.ilbm_spec.specs.declared.Destination.{Destination}
+use Rattle.ilbm_spec.specs.declared.BitmapHeader.{BitmapHeader}
+use Rattle.ilbm_spec.specs.declared.Picture.{Picture}
+use Rattle.ilbm_spec.specs.Contents.{Property, Content}
+use Rattle.ilbm_spec.specs.Pictures.{u16, headerIn, hotSpotIn, destinationIn, dataOf, sizeNot, pictureRefusal, pictureFrom}
+use Rattle.ilbm_content.specs.declared.Held.{Held}
+use Rattle.ilbm_content.specs.declared.Contents.{Contents}
+use Rattle.ilbm_content.specs.Held.{HeldIs, ContentsAre}
+
+-- the part holds a property that is absent or has this size
+abbrev pub OfSize : List ℕ → Held → ℕ → Type 0
+OfSize s h n = (q : Property) × HeldIs s h q × (sizeNot n q ≡ false)
+
+-- the parts hold the content of a picture that is not refused
+abbrev pub Judged : List ℕ → Contents → Type 0
+Judged s c = (x : Content) × ContentsAre s c x × (pictureRefusal x ≡ 0)
+
+pub record HeaderIs (s : List ℕ) (h : Held) (r : BitmapHeader) : Type 0 where
+  pub at : (q : Property) → HeldIs s h q → r ≡ headerIn (dataOf q)
+
+pub record GrabIs (s : List ℕ) (h : Held) (r : HotSpot) : Type 0 where
+  pub at : (q : Property) → HeldIs s h q → r ≡ hotSpotIn (dataOf q)
+
+pub record DestinationIs (s : List ℕ) (h : Held) (r : Destination) : Type 0 where
+  pub at : (q : Property) → HeldIs s h q → r ≡ destinationIn (dataOf q)
+
+pub record WordIs (s : List ℕ) (h : Held) (r : ℕ) : Type 0 where
+  pub at : (q : Property) → HeldIs s h q → r ≡ u16 (dataOf q) 0
+
+pub record LongIs (s : List ℕ) (h : Held) (r : ℕ) : Type 0 where
+  pub at : (q : Property) → HeldIs s h q → r ≡ word (dataOf q) 0
+
+pub record PictureIs (s : List ℕ) (c : Contents) (r : Picture) : Type 0 where
+  pub at : (x : Content) → ContentsAre s c x → r ≡ pictureFrom x

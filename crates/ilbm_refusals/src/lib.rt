@@ -1,0 +1,116 @@
+// The refusals of a picture by its content, 21 to 24.
+use ilbm_content::Contents;
+use ilbm_content::Held;
+use ilbm_fields::bitmap_header;
+use ilbm_spec::BitmapHeader;
+use ilbm_members::Part;
+ghost use mathlib.Core.Path.{_≡_};
+ghost use Rattle.ilbm_spec.specs.Pictures.{headerRefusal};
+ghost use Rattle.ilbm_refusals.specs.Refusals.{Sized, Full, SizeIs, TriplesIs, SizesAre, RefusalIs};
+ghost use Rattle.ilbm_members.specs.declared.Part.the-variants.{Between};
+
+fn size_not(h: Held, n: usize) -> bool
+    requires { ⌜ Sized h ⌝ }
+    ensures { λ r. ⌜ SizeIs h n r ⌝ }
+{
+    let part = h.part;
+    match part {
+        Part::Nothing => false,
+        Part::Between(from, to) => to - from != n,
+    }
+}
+
+fn not_triples(h: Held) -> bool
+    requires { ⌜ Sized h ⌝ }
+    ensures { λ r. ⌜ TriplesIs h r ⌝ }
+{
+    let part = h.part;
+    match part {
+        Part::Nothing => false,
+        Part::Between(from, to) => (to - from) % 3 != 0,
+    }
+}
+
+// 23: a property of a wrong size.
+fn wrong_size(s: &[u8], c: Contents) -> bool
+    requires { ⌜ Full (now s) c ⌝ }
+    ensures { λ r. ⌜ SizesAre (now (s .entry)) c r ⌝ }
+{
+    let bmhd = c.bmhd;
+    let cmap = c.cmap;
+    let grab = c.grab;
+    let dest = c.dest;
+    let sprt = c.sprt;
+    let camg = c.camg;
+    if size_not(bmhd, 20) {
+        return true;
+    }
+    if not_triples(cmap) {
+        return true;
+    }
+    if size_not(grab, 4) {
+        return true;
+    }
+    if size_not(dest, 8) {
+        return true;
+    }
+    if size_not(sprt, 2) {
+        return true;
+    }
+    size_not(camg, 4)
+}
+
+// 24: a header that can't be shown.
+fn header_refusal(b: BitmapHeader, body: bool) -> usize
+    ensures { λ r. ⌜ r ≡ headerRefusal b body ⌝ }
+{
+    if 8 < b.planes {
+        return 24;
+    }
+    if 3 < b.masking {
+        return 24;
+    }
+    if 1 < b.compression {
+        return 24;
+    }
+    if body {
+        if b.w == 0 {
+            return 24;
+        }
+        if b.h == 0 {
+            return 24;
+        }
+        if b.planes == 0 {
+            return 24;
+        }
+    }
+    0
+}
+
+// 22 to 24, of a picture whose BMHD is a part of the file.
+fn sized_refusal(s: &[u8], c: Contents, from: usize, to: usize) -> usize
+    requires { ⌜ (Full (now s) c) × (c .bmhd .part ≡ Between from to) ⌝ }
+    ensures { λ r. ⌜ RefusalIs (now (s .entry)) c r ⌝ }
+{
+    if 1 < c.bodies {
+        return 22;
+    }
+    if wrong_size(s, c) {
+        return 23;
+    }
+    let header = bitmap_header(&s[from..to]);
+    header_refusal(header, 0 < c.bodies)
+}
+
+// 21 to 24, or 0.
+pub fn refusal(s: &[u8], c: Contents) -> usize
+    requires { ⌜ Full (now s) c ⌝ }
+    ensures { λ r. ⌜ RefusalIs (now (s .entry)) c r ⌝ }
+{
+    let bmhd = c.bmhd;
+    let part = bmhd.part;
+    match part {
+        Part::Nothing => 21,
+        Part::Between(from, to) => sized_refusal(s, c, from, to),
+    }
+}

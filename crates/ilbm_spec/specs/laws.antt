@@ -1,0 +1,4 @@
+pub mod Ignored
+pub mod Moved
+pub mod Palette
+pub mod Places

@@ -1,0 +1,11 @@
+pub mod After
+pub mod Answers
+pub mod Boundaries
+pub mod Bytes
+pub mod Calls
+pub mod Files
+pub mod Ignored
+pub mod Insert
+pub mod Places
+pub mod Refused
+pub mod Renamed

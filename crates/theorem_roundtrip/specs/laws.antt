@@ -1,0 +1,6 @@
+pub mod Lines
+pub mod Planes
+pub mod Seen
+pub mod Tree
+pub mod Writable
+pub mod Header

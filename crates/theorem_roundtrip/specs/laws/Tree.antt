@@ -1,0 +1,63 @@
+-- The written file is a chunk file of the grammar with nothing trailing, so it is accepted and its tree is found.
+use Prim.Native.Nat.{ℕ, _≤_}
+use mathlib.Core.Path.{_≡_, refl, sym, ap, _∙_}
+use mathlib.Core.List.{List, [], _∷_, append-nil}
+use lib.ListN.{length, length-replicate}
+use native.Mathlib.Omega.{arith}
+use Rattle.iff_name.specs.Name.{wellFormed, versionName, typeBytes, reservedName, typeName, kindOf}
+use Rattle.iff_rules.specs.declared.Position.the-variants.{Outermost, InForm}
+use Rattle.iff_tree.specs.declared.Verdict.the-variants.{Accepted}
+use Rattle.iff_chunk.specs.Chunks.{Chunks, none, leaf, before, bytes, count}
+use Rattle.iff_tree.specs.Judge.{found, readFile, checkOf}
+use Rattle.iff_grammar.specs.Grammar.{Members, height, ChunkFile}
+use Rattle.iff_grammar.specs.Accept.{complete, ends}
+use Rattle.ilbm_spec.specs.declared.BitmapHeader.{BitmapHeader}
+use Rattle.ilbm_spec.specs.Names.{BODY}
+use Rattle.write_body.specs.Body.{bodyBytes}
+use Rattle.write_form.specs.File.{headerBytes, padOf, paletteThen, pictureForm, pictureFile}
+
+-- FORM, BMHD and BODY, and CMAP if there is a palette
+abbrev pub chunksFor : List ℕ → ℕ
+chunksFor [] = 3
+chunksFor (x ∷ xs) = 4
+
+body-stands : (body : List ℕ) → Members InForm [] (leaf BODY body (padOf body) none)
+unfolding kindOf wellFormed versionName
+body-stands body = (refl, refl, refl, length-replicate _ 0, tt)
+
+palette-stands : (palette : List ℕ) (F : Chunks) → Members InForm [] F → Members InForm [] (paletteThen palette F)
+unfolding kindOf wellFormed versionName
+palette-stands [] F m = m
+palette-stands (x ∷ xs) F m = (refl, refl, refl, length-replicate _ 0, m)
+
+form-stands : (b : BitmapHeader) (palette frame : List ℕ) → Members Outermost [] (before (pictureForm b palette frame) none)
+unfolding kindOf wellFormed versionName typeName typeBytes reservedName headerBytes
+form-stands b palette frame =
+    (refl, refl, refl, refl, (refl, refl, refl, refl, palette-stands palette _ (body-stands (bodyBytes b frame))), tt)
+
+form-height : (b : BitmapHeader) (palette frame : List ℕ) → height (before (pictureForm b palette frame) none) ≤ 16
+form-height b [] frame = omega arith
+form-height b (x ∷ xs) frame = omega arith
+
+form-count : (b : BitmapHeader) (palette frame : List ℕ) → count (before (pictureForm b palette frame) none) ≡ chunksFor palette
+unfolding count
+form-count b [] frame = refl
+form-count b (x ∷ xs) frame = refl
+
+module _ (b : BitmapHeader) (palette frame : List ℕ) (short : length (pictureFile b palette frame) ≤ 16777216) where
+  chunk-file : ChunkFile (pictureFile b palette frame) (pictureForm b palette frame) []
+  unfolding pictureFile
+  chunk-file =
+      record {
+        whole = sym (append-nil (bytes (before (pictureForm b palette frame) none)));
+        tree = form-stands b palette frame;
+        nesting = form-height b palette frame;
+        short = short;
+      }
+
+  pub file-read : readFile (pictureFile b palette frame) ≡ found (pictureForm b palette frame)
+  file-read = complete (pictureFile b palette frame) (pictureForm b palette frame) [] chunk-file
+
+  pub file-told : checkOf (pictureFile b palette frame) ≡ Accepted (chunksFor palette) (length (pictureFile b palette frame)) 0
+  unfolding pictureFile
+  file-told = ends (pictureFile b palette frame) (pictureForm b palette frame) [] chunk-file .1 ∙ ap (λ (k : ℕ). Accepted k (length (pictureFile b palette frame)) 0) (form-count b palette frame)
