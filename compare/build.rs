@@ -1,4 +1,4 @@
-//! Links the archive that `rt staticlib bench_reader` writes.
+//! Links the archive that `./library bench_reader` makes in the repository's root.
 
 use std::path::Path;
 
@@ -8,7 +8,9 @@ fn main() {
     println!("cargo:rerun-if-changed=build.rs");
     println!("cargo:rerun-if-changed={}", archive.display());
     if !archive.is_file() {
-        eprintln!("target/staticlib/libbench_reader.a is missing: run ./test (or rt staticlib bench_reader) first");
+        let missing = "target/staticlib/libbench_reader.a is missing";
+        let remedy = "run ./test (or ./library bench_reader) in the repository's root first";
+        eprintln!("{missing}: {remedy}");
         std::process::exit(1);
     }
     println!("cargo:rustc-link-search=native={}", folder.display());

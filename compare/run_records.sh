@@ -37,7 +37,7 @@ chmod +x "$work/kit/on/$machine/toolchain/bin/clang"
 mkdir -p "$work/program/crates/filled/src"
 cp -R "$root/crates" "$work/program"
 cp "$root/crates.txt" "$work/program"
-echo "filled: $(sed -n 's/^list_record_table: */records /p' "$root/crates.txt")" >> "$work/program/crates.txt"
+echo "filled: $(sed -n 's/^list_record_table: */list_record_table /p' "$root/crates.txt")" >> "$work/program/crates.txt"
 cat > "$work/program/crates/filled/src/main.rt" <<'END'
 use list_spec::Record;
 use iff_name::Kind;

@@ -8,7 +8,7 @@ for program in ppmtoilbm ilbmtoppm ppmtoppm ffmpeg; do
 done
 CARGO_TARGET_DIR=${CARGO_TARGET_DIR:-$PWD/target/cargo}
 export CARGO_TARGET_DIR
-(cd outside && cargo build --offline --quiet --release)
+cargo build --offline --quiet --release -p outside
 outside=$CARGO_TARGET_DIR/release/outside
 work=target/outside
 rm -rf "$work"

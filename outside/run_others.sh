@@ -9,7 +9,7 @@ for program in grafx2 Xvfb xdotool pike8.0 java javac ilbmtoppm pngtopam; do
 done
 CARGO_TARGET_DIR=${CARGO_TARGET_DIR:-$PWD/target/cargo}
 export CARGO_TARGET_DIR
-(cd outside && cargo build --offline --quiet --release)
+cargo build --offline --quiet --release -p outside
 outside=$CARGO_TARGET_DIR/release/outside
 work=target/others
 rm -rf "$work"

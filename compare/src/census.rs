@@ -28,9 +28,9 @@ pub struct Census {
     counts: BTreeMap<String, BTreeMap<&'static str, u64>>,
 }
 
-impl Census {
+impl Default for Census {
     /// Every count of an addition at 0.
-    pub fn new() -> Census {
+    fn default() -> Census {
         let mut census = Census { counts: BTreeMap::new() };
         for pair in PAIRS {
             SIDES.iter().for_each(|side| census.add(0, &row(pair), column(*side)));
@@ -39,7 +39,9 @@ impl Census {
         SIDES.iter().for_each(|side| census.add(0, AFTER_END, column(*side)));
         census
     }
+}
 
+impl Census {
     pub fn add(&mut self, count: u64, row: &str, column: &'static str) {
         *self.counts.entry(row.to_string()).or_default().entry(column).or_default() += count;
     }

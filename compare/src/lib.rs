@@ -12,6 +12,7 @@ pub mod fixed;
 pub mod large;
 mod later;
 pub mod listings;
+pub mod plain;
 mod property;
 pub mod shapes;
 mod subject;

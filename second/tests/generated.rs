@@ -1,11 +1,9 @@
 //! Properties over generated files, and how often each number is answered.
 
 use second::generate::{self, Query};
-use second::plain::{plain_check, plain_record};
-use second::plain_rows::{plain_frame, plain_frame_by_bytes, plain_pack};
 use second::random::Random;
 use second::{check, clean_copy, data, fill_table, frame, listing_text, pack, palette, properties};
-use second::{record, records, scan_line, write_picture, Kind, Origin, Refused};
+use second::{record, records, scan_line, write_picture, Frame, Kind, Origin, Refused};
 use std::collections::BTreeMap;
 
 /// A number from the environment, or the usual one.
@@ -49,15 +47,11 @@ fn for_files(mut each: impl FnMut(&[u8], &mut Random)) {
 }
 
 #[test]
-fn structure_numbers_and_plain_check() {
+fn structure_numbers() {
     let mut tally = Tally::default();
     let mut long = 0;
     for_files(|file, _| {
         let answer = check(file);
-        assert_eq!(plain_check(file), answer);
-        let number = answer.map_or(0, |accepted| accepted.chunks - 1);
-        assert_eq!(plain_record(file, number), record(file, number));
-        assert_eq!(plain_record(file, number + 1), record(file, number + 1));
         tally.add(&answer);
         long += usize::from(file.len() >= 4096);
     });
@@ -134,34 +128,27 @@ fn picture_numbers() {
     tally.needs([0].into_iter().chain(20..=29));
 }
 
-/// A frame is its scan lines in turn, and the plain decoder gives the same.
+/// A frame is its scan lines in turn.
 #[test]
 fn frames_are_scan_lines() {
     let mut read = 0;
     for_files(|file, random| {
         let picture = generate::query(random, file).picture;
         let Ok(told) = properties(file, picture) else { return };
-        let Some(body) = told.body.clone() else { return };
+        let Some(body) = told.body else { return };
         let (width, height) = (usize::from(told.header.width), usize::from(told.header.height));
         let whole = frame(file, picture, width * height);
-        let mut buffer = vec![9; width * height];
-        let plain = plain_frame(&told.header, &file[body.clone()], &mut buffer);
-        assert_eq!(plain.err(), whole.as_ref().err().copied());
-        let mut other = vec![7; width * height];
-        assert_eq!(plain_frame_by_bytes(&told.header, &file[body.clone()], &mut other), plain);
-        assert!(whole.is_err() || other == buffer);
-        let mut place = 0;
-        for y in 0..height {
+        let (mut colours, mut place) = (Vec::new(), 0);
+        for _ in 0..height {
             match scan_line(file, picture, place, width) {
                 Err(refused) => return assert_eq!(whole, Err(refused)),
                 Ok(line) => {
                     place = line.next;
-                    assert!(whole.is_err() || line.colours == buffer[y * width..(y + 1) * width]);
+                    colours.extend(line.colours);
                 }
             }
         }
-        let whole = whole.unwrap();
-        assert_eq!((whole.colours, whole.leftover), (buffer, body.len() - place));
+        assert_eq!(whole, Ok(Frame { colours, leftover: body.len() - place }));
         read += 1;
     });
     assert!(read > files() / 20, "{read} frames read");
@@ -177,9 +164,6 @@ fn packed_rows_read_back() {
         tally.add(&answer);
         let Ok(packed) = answer else { continue };
         assert!(packed.len() <= input.row.len() + input.row.len().div_ceil(128));
-        let mut buffer = vec![0; input.room];
-        assert_eq!(plain_pack(&input.row, &mut buffer), Some(packed.len()));
-        assert_eq!(buffer[..packed.len()], packed);
         assert_eq!(unpacked(&packed), input.row);
     }
     tally.needs([0, 31, 32]);

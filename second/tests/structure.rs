@@ -3,36 +3,28 @@
 mod common;
 
 use common::{chunk, form, group, nested, refused, sized};
-use second::plain::plain_check;
 use second::{check, clean_copy, count_pictures, data, fill_table, listing_text, record, records};
-use second::{Accepted, Kind, Name, Refused};
-
-/// The answer of the reader, which the plain walk must share.
-fn both(file: &[u8]) -> Result<Accepted, Refused> {
-    let answer = check(file);
-    assert_eq!(plain_check(file), answer);
-    answer
-}
+use second::{Kind, Name, Refused};
 
 fn accepted(file: &[u8]) -> (usize, usize, usize) {
-    let told = both(file).unwrap();
+    let told = check(file).unwrap();
     (told.chunks, told.end, told.trailing)
 }
 
 #[test]
 fn examples_of_the_scope() {
-    assert_eq!(both(b""), refused(2, 0));
+    assert_eq!(check(b""), refused(2, 0));
     assert_eq!(accepted(b"FORM\0\0\0\x04ILBM"), (1, 12, 0));
-    assert_eq!(both(b"FOR1\0\0\0\x04ILBM"), refused(3, 0));
-    assert_eq!(both(b"FORM\0\0\0\x04ILB"), refused(7, 0));
-    assert_eq!(both(b"FORM\0\0\0\x05ILBMx\0"), refused(4, 12));
+    assert_eq!(check(b"FOR1\0\0\0\x04ILBM"), refused(3, 0));
+    assert_eq!(check(b"FORM\0\0\0\x04ILB"), refused(7, 0));
+    assert_eq!(check(b"FORM\0\0\0\x05ILBMx\0"), refused(4, 12));
     let mut odd = b"FORM\0\0\0\x0dILBMXXXX\0\0\0\x01x".to_vec();
     assert_eq!(odd.len(), 21);
-    assert_eq!(both(&odd), refused(8, 0));
+    assert_eq!(check(&odd), refused(8, 0));
     odd.push(0);
-    assert_eq!(both(&odd), refused(8, 12));
+    assert_eq!(check(&odd), refused(8, 12));
     let twice = b"LIST\0\0\0\x1cJJJJPROP\0\0\0\x04ILBMPROP\0\0\0\x04ILBM";
-    assert_eq!(both(twice), refused(12, 24));
+    assert_eq!(check(twice), refused(12, 24));
 }
 
 #[test]
@@ -41,28 +33,28 @@ fn file_length_comes_first() {
     file.resize(16_777_216, 0xff);
     assert_eq!(accepted(&file), (1, 12, 16_777_204));
     file.push(0);
-    assert_eq!(both(&file), refused(1, 0));
-    assert_eq!(both(&vec![0; 16_777_217]), refused(1, 0));
+    assert_eq!(check(&file), refused(1, 0));
+    assert_eq!(check(&vec![0; 16_777_217]), refused(1, 0));
 }
 
 #[test]
 fn outermost_names() {
     for name in ["FOR", "PROP", "JJJJ", "form", "FOR0", "LISA", "    ", " ABC", "\x00\x01\x02\x03", "CAT\0"] {
-        assert_eq!(both(&sized(name, 4, b"ILBM")), refused(2, 0), "{name}");
+        assert_eq!(check(&sized(name, 4, b"ILBM")), refused(2, 0), "{name}");
     }
     for name in Name::versions() {
-        assert_eq!(both(&name.0), refused(3, 0));
+        assert_eq!(check(&name.0), refused(3, 0));
     }
     assert_eq!(Name::versions().len(), 27);
     for name in ["FORM", "LIST", "CAT "] {
-        assert_eq!(both(name.as_bytes()), refused(4, 0));
+        assert_eq!(check(name.as_bytes()), refused(4, 0));
         assert_eq!(accepted(&group(name, "ABCD", &[])), (1, 12, 0));
     }
 }
 
 #[test]
 fn checks_at_one_header_stand_in_order() {
-    let member = |bytes: &[u8]| both(&form(&[bytes.to_vec()]));
+    let member = |bytes: &[u8]| check(&form(&[bytes.to_vec()]));
     assert_eq!(member(b"\0\0\0\0\0\0\0"), refused(4, 12));
     assert_eq!(member(b"\x1fAAA\xff\xff\xff\xff"), refused(5, 12));
     assert_eq!(member(b"A BC\0\0\0\0"), refused(5, 12));
@@ -81,16 +73,16 @@ fn checks_at_one_header_stand_in_order() {
 #[test]
 fn header_checks_come_before_members() {
     let bad_type = sized("FORM", 13, b"FORMJJJJ\0\0\0\x09\0");
-    assert_eq!(both(&[bad_type, vec![0]].concat()), refused(11, 0));
+    assert_eq!(check(&[bad_type, vec![0]].concat()), refused(11, 0));
     let first = group("FORM", "ABCD", &[sized("JJJJ", 0, b"")]);
-    assert_eq!(both(&group("CAT ", "JJJJ", &[first, sized("LIS1", 0, b"")])), refused(6, 24));
+    assert_eq!(check(&group("CAT ", "JJJJ", &[first, sized("LIS1", 0, b"")])), refused(6, 24));
 }
 
 #[test]
 fn sizes_are_judged_by_the_parent() {
     let over = |size| {
         let first = group("FORM", "ABCD", &[sized("DATA", size, b"wxyz")]);
-        both(&[group("CAT ", "JJJJ", &[first, form(&[])]), vec![0; 9]].concat())
+        check(&[group("CAT ", "JJJJ", &[first, form(&[])]), vec![0; 9]].concat())
     };
     assert!(over(4).is_ok());
     assert_eq!(over(5), refused(7, 24));
@@ -103,17 +95,17 @@ fn sizes_are_judged_by_the_parent() {
 fn levels() {
     for name in ["FORM", "LIST", "CAT "] {
         assert_eq!(accepted(&nested(name, 16, vec![])).0, 16);
-        assert_eq!(both(&nested(name, 17, vec![])), refused(9, 16 * 12));
+        assert_eq!(check(&nested(name, 17, vec![])), refused(9, 16 * 12));
     }
     let local = chunk("DATA", b"x");
     assert_eq!(accepted(&nested("FORM", 16, local)).0, 17);
     assert_eq!(accepted(&nested("LIST", 16, chunk("    ", b"x"))).0, 17);
     let prop = group("PROP", "ABCD", &[]);
     assert_eq!(accepted(&nested("LIST", 15, prop.clone())).0, 16);
-    assert_eq!(both(&nested("LIST", 16, prop)), refused(9, 16 * 12));
+    assert_eq!(check(&nested("LIST", 16, prop)), refused(9, 16 * 12));
     let short = sized("FORM", 2, b"AB");
-    assert_eq!(both(&nested("FORM", 16, short.clone())), refused(9, 16 * 12));
-    assert_eq!(both(&nested("FORM", 15, short)), refused(10, 15 * 12));
+    assert_eq!(check(&nested("FORM", 16, short.clone())), refused(9, 16 * 12));
+    assert_eq!(check(&nested("FORM", 15, short)), refused(10, 15 * 12));
 }
 
 #[test]
@@ -125,7 +117,7 @@ fn what_each_group_may_hold() {
             let in_it = group(outer, "ABCD", &[chunk(name, b"ABCD")]);
             let file = group("LIST", "ABCD", &[in_it]);
             let expected = if allowed == b'y' { None } else { Some(Refused { number: 6, place: 24 }) };
-            assert_eq!(both(&file).err(), expected, "{name} in {outer}");
+            assert_eq!(check(&file).err(), expected, "{name} in {outer}");
         }
     }
 }
@@ -134,7 +126,7 @@ fn what_each_group_may_hold() {
 fn props_of_a_list() {
     let filler = chunk("    ", b"x");
     let prop = |kind| group("PROP", kind, &[]);
-    let list = |members: &[Vec<u8>]| both(&group("LIST", "JJJJ", members));
+    let list = |members: &[Vec<u8>]| check(&group("LIST", "JJJJ", members));
     let sound = [prop("ILBM"), filler.clone(), prop("8SVX"), filler.clone(), form(&[])];
     assert_eq!(list(&sound).unwrap().chunks, 6);
     for ender in ["FORM", "LIST", "CAT "] {
@@ -156,18 +148,18 @@ fn types() {
         " ABC",
     ];
     for kind in good {
-        assert!(both(&group("FORM", kind, &[])).is_ok(), "{kind}");
-        assert!(both(&group("LIST", "JJJJ", &[group("PROP", kind, &[])])).is_ok(), "{kind}");
+        assert!(check(&group("FORM", kind, &[])).is_ok(), "{kind}");
+        assert!(check(&group("LIST", "JJJJ", &[group("PROP", kind, &[])])).is_ok(), "{kind}");
     }
     for kind in bad {
-        assert_eq!(both(&group("FORM", kind, &[])), refused(11, 0), "{kind}");
-        assert_eq!(both(&group("LIST", "JJJJ", &[group("PROP", kind, &[])])), refused(11, 12), "{kind}");
+        assert_eq!(check(&group("FORM", kind, &[])), refused(11, 0), "{kind}");
+        assert_eq!(check(&group("LIST", "JJJJ", &[group("PROP", kind, &[])])), refused(11, 12), "{kind}");
         let free = !matches!(kind, "A BC" | " ABC");
         for name in ["LIST", "CAT "] {
-            assert_eq!(both(&group(name, kind, &[])).is_ok(), free, "{name} {kind}");
+            assert_eq!(check(&group(name, kind, &[])).is_ok(), free, "{name} {kind}");
         }
     }
-    assert_eq!(both(&sized("LIST", 4, b"AB\x7f ")), refused(11, 0));
+    assert_eq!(check(&sized("LIST", 4, b"AB\x7f ")), refused(11, 0));
 }
 
 #[test]
@@ -181,10 +173,10 @@ fn end_and_trailing_count_the_pad() {
 #[test]
 fn very_many_siblings_and_props() {
     let siblings = group("FORM", "ABCD", &[b"DATA\0\0\0\0".repeat(2_000_000)]);
-    assert_eq!(both(&siblings).unwrap().chunks, 2_000_001);
+    assert_eq!(check(&siblings).unwrap().chunks, 2_000_001);
     let list = |types: &[[u8; 4]]| {
         let props: Vec<u8> = types.iter().flat_map(|kind| [*b"PROP", [0, 0, 0, 4], *kind].concat()).collect();
-        both(&group("LIST", "JJJJ", &[props]))
+        check(&group("LIST", "JJJJ", &[props]))
     };
     let mut types = distinct_types(1_300_000);
     assert_eq!(list(&types).unwrap().chunks, 1_300_001);

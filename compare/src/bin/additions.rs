@@ -16,7 +16,7 @@ fn main() -> ExitCode {
     let seed = words.first().copied().unwrap_or(SEED);
     let lists = words.get(1).copied().unwrap_or(LISTS);
     let start = Instant::now();
-    let mut census = Census::new();
+    let mut census = Census::default();
     if let Err(text) = compare_lists(&mut census, seed, lists) {
         println!("{text}");
         return ExitCode::FAILURE;

@@ -2,7 +2,8 @@
 //! more than 2.3 times as long. What they give is compared with a plain walk, and
 //! so is their time. Prints the ratios; fails if a bound or a comparison fails.
 
-use compare::listings::{fill, plain, read, Table};
+use compare::listings::{fill, read, Table};
+use compare::plain;
 use compare::shapes::{now, Count, Make, SHAPES};
 
 const TURNS: usize = 15;
@@ -37,7 +38,7 @@ impl Subject {
             let told = match way {
                 0 => read(&self.file),
                 1 => self.chunks + fill(&self.file, &mut self.table),
-                _ => plain(&self.file, &mut self.expected),
+                _ => plain::fill(&self.file, &mut self.expected),
             };
             *time = now() - start;
             if told != self.chunks {

@@ -1,8 +1,9 @@
 //! Measures the table of record structs: twice the chunks must not take more than
 //! 2.3 times as long. What it holds is compared with a plain walk. Linked by
-//! run_records.sh with the code of `records::fill`, which can't be exported.
+//! run_records.sh with the code of `list_record_table::fill`, which can't be exported.
 
-use compare::listings::{plain, Table};
+use compare::listings::Table;
+use compare::plain;
 use compare::shapes::{now, Count, Make, SHAPES};
 
 /// The compiler's layout of a record.
@@ -80,7 +81,7 @@ impl Subject {
 
     fn as_expected(&self) -> bool {
         let mut expected = Table::new(self.chunks + 1);
-        plain(&self.file, &mut expected) == self.chunks && same(&self.table, &expected)
+        plain::fill(&self.file, &mut expected) == self.chunks && same(&self.table, &expected)
     }
 }
 

@@ -3,7 +3,7 @@
 use crate::drawn::{all, drawn, Drawn, HEIGHT};
 use crate::outside::Decoder;
 use crate::timing::{beside, grown, heading, timed, Timed};
-use second::plain_rows::{plain_frame, plain_frame_by_bytes};
+use compare::plain;
 use second::{Header, Refused};
 use std::hint::black_box;
 
@@ -35,7 +35,7 @@ fn plain(picture: &Drawn, decode: Decode) -> Timed<'_> {
 
 /// The plain decoders, by how they gather.
 const PLAIN: [(&str, Decode); 2] =
-    [("bit by bit", plain_frame), ("eight bits at a time", plain_frame_by_bytes)];
+    [("bit by bit", plain::frame), ("eight bits at a time", plain::frame_by_bytes)];
 
 pub fn against_others() {
     heading("frame of 320 by 200, 5 planes", ["second", "plain"]);
@@ -54,7 +54,7 @@ pub fn against_libavcodec(program: &str) {
         let mut decoder = Decoder::start(program, &picture);
         let outside: Timed = Box::new(move |times| decoder.run(times));
         let name = format!("{}, plain: bit by bit", picture.name);
-        beside(&name, [library(&picture), outside, plain(&picture, plain_frame)]);
+        beside(&name, [library(&picture), outside, plain(&picture, plain::frame)]);
     }
 }
 

@@ -2,7 +2,8 @@
 
 use crate::timing::{beside, heading, timed};
 use compare::large::{forms, leaves, GROUPS, LEAVES};
-use compare::listings::{fill, plain, read, Table};
+use compare::listings::{fill, read, Table};
+use compare::plain;
 use std::hint::black_box;
 
 fn whole(what: &str, file: &[u8], chunks: usize) {
@@ -10,7 +11,7 @@ fn whole(what: &str, file: &[u8], chunks: usize) {
     let second = || timed(|| second::records(black_box(file)).map(|records| records.len()));
     let plain = || {
         let mut table = table();
-        timed(move || plain(black_box(file), &mut table))
+        timed(move || plain::fill(black_box(file), &mut table))
     };
     let by_reader = timed(|| read(black_box(file)));
     beside(&format!("reader, {what}"), [by_reader, second(), plain()]);

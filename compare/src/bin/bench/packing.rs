@@ -2,7 +2,7 @@
 
 use crate::drawn::{all, drawn, Drawn, HEIGHT, ROW};
 use crate::timing::{beside, grown, heading, timed, Timed};
-use second::plain_rows::plain_pack;
+use compare::plain;
 use std::hint::black_box;
 
 /// Packs each row to where the one before it ended, in a cleared buffer. The
@@ -35,7 +35,7 @@ fn second_reader(picture: &Drawn) -> Timed<'_> {
 }
 
 fn plain(picture: &Drawn) -> Timed<'_> {
-    rows(picture, |row, out| plain_pack(row, out).expect("room enough"))
+    rows(picture, |row, out| plain::pack(row, out).expect("room enough"))
 }
 
 pub fn against_others() {

@@ -2,25 +2,24 @@
 
 use crate::timing::{beside, grown, heading, timed};
 use compare::large::{forms, leaves, props, GROUPS, LEAVES};
-use compare::CALLS;
-use second::plain::{plain_check, plain_record};
+use compare::{plain, CALLS};
 use std::hint::black_box;
 
 fn check(what: &str, file: &[u8]) {
     let ours = timed(|| florinhado::check(black_box(file)));
     let second = timed(|| second::check(black_box(file)));
-    let plain = timed(|| plain_check(black_box(file)));
+    let plain = timed(|| plain::check(black_box(file)));
     beside(&format!("check, {what}"), [ours, second, plain]);
 }
 
 /// The last of so many records.
 fn record(what: &str, file: &[u8], count: usize) {
     let last = black_box(count - 1);
-    let told = plain_record(file, last);
+    let told = plain::record(file, last);
     assert_eq!(told, second::record(file, last));
     let ours = timed(|| florinhado::record(black_box(file), last));
     let second = timed(|| second::record(black_box(file), last));
-    let plain = timed(|| plain_record(black_box(file), last));
+    let plain = timed(|| plain::record(black_box(file), last));
     beside(&format!("last record, {what}"), [ours, second, plain]);
 }
 

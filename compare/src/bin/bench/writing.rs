@@ -2,7 +2,7 @@
 
 use crate::drawn::{all, drawn, fields, Drawn, HEIGHT, WIDTH};
 use crate::timing::{beside, grown, heading, timed, Timed};
-use second::plain_write::plain_write;
+use compare::plain;
 use second::Fields;
 use std::hint::black_box;
 
@@ -48,7 +48,7 @@ fn second_writer(picture: &Drawn) -> Timed<'_> {
 }
 
 fn plain(picture: &Drawn) -> Timed<'_> {
-    written(picture, |fields, frame, out| plain_write(fields, &PALETTE, frame, out).expect("room enough"))
+    written(picture, |fields, frame, out| plain::write(fields, &PALETTE, frame, out).expect("room enough"))
 }
 
 pub fn against_others() {

@@ -1,7 +1,6 @@
-//! Times of the plain walk, frame decoder and packer: `cargo bench`.
+//! Times of the plain programs by themselves: `cargo bench --bench plain`.
 
-use second::plain::plain_check;
-use second::plain_rows::{plain_frame, plain_pack};
+use compare::plain;
 use second::random::Random;
 use second::{check, properties, write_picture, Fields};
 use std::hint::black_box;
@@ -51,22 +50,22 @@ fn picture(compression: u8) -> (Vec<u8>, usize) {
 
 fn main() {
     let siblings = group(b"FORM", b"ABCD", &b"DATA\0\0\0\0".repeat(2_000_000));
-    time("plain_check, 2,000,000 empty siblings", siblings.len(), || plain_check(&siblings));
+    time("plain check, 2,000,000 empty siblings", siblings.len(), || plain::check(&siblings));
     time("check, 2,000,000 empty siblings", siblings.len(), || check(&siblings));
     let forms = group(b"LIST", b"JJJJ", &group(b"FORM", b"ILBM", &[]).repeat(1_000_000));
-    time("plain_check, 1,000,000 FORMs", forms.len(), || plain_check(&forms));
+    time("plain check, 1,000,000 FORMs", forms.len(), || plain::check(&forms));
     for compression in 0..=1 {
         let (file, pixels) = picture(compression);
         let told = properties(&file, 0).unwrap();
         let body = &file[told.body.clone().unwrap()];
         let mut frame = vec![0; pixels];
-        let run = || plain_frame(&told.header, body, &mut frame);
-        time(&format!("plain_frame, 8 planes, compression {compression}, pixels"), pixels, run);
+        let run = || plain::frame(&told.header, body, &mut frame);
+        time(&format!("plain frame, 8 planes, compression {compression}, pixels"), pixels, run);
     }
     let mut random = Random::new(5);
     let noise: Vec<u8> = (0..8192).map(|_| random.byte()).collect();
     let runs: Vec<u8> = (0..8192).map(|n| (n / 37) as u8).collect();
     let mut out = vec![0; 8192 + 64];
-    time("plain_pack, 8,192 bytes of noise", 8192, || plain_pack(&noise, &mut out));
-    time("plain_pack, 8,192 bytes of runs", 8192, || plain_pack(&runs, &mut out));
+    time("plain pack, 8,192 bytes of noise", 8192, || plain::pack(&noise, &mut out));
+    time("plain pack, 8,192 bytes of runs", 8192, || plain::pack(&runs, &mut out));
 }

@@ -1,13 +1,12 @@
-//! Straightforward frame decoder and packer, for benchmarks.
+//! Two frame decoders, and a packer.
 
-use crate::answer::Refused;
-use crate::fields::Header;
+use second::{Header, Refused};
 
 /// Decodes a BODY into `frame`, which must have w times h bytes, pixel by pixel
 /// and bit by bit. Returns the count of BODY bytes left over; after 26 or 27
 /// the frame is partly written.
-pub fn plain_frame(header: &Header, body: &[u8], frame: &mut [u8]) -> Result<usize, Refused> {
-    plain_lines(header, body, frame, |rows, length, line| {
+pub fn frame(header: &Header, body: &[u8], frame: &mut [u8]) -> Result<usize, Refused> {
+    lines(header, body, frame, |rows, length, line| {
         for (x, pixel) in line.iter_mut().enumerate() {
             for (plane, row) in rows.chunks_exact(length).enumerate() {
                 *pixel |= (row[x / 8] >> (7 - x % 8) & 1) << plane;
@@ -17,8 +16,8 @@ pub fn plain_frame(header: &Header, body: &[u8], frame: &mut [u8]) -> Result<usi
 }
 
 /// The same plane by plane, the eight bits of a byte at a time.
-pub fn plain_frame_by_bytes(header: &Header, body: &[u8], frame: &mut [u8]) -> Result<usize, Refused> {
-    plain_lines(header, body, frame, |rows, length, line| {
+pub fn frame_by_bytes(header: &Header, body: &[u8], frame: &mut [u8]) -> Result<usize, Refused> {
+    lines(header, body, frame, |rows, length, line| {
         for (plane, row) in rows.chunks_exact(length).enumerate() {
             for (pixels, byte) in line.chunks_mut(8).zip(row) {
                 for (n, pixel) in pixels.iter_mut().enumerate() {
@@ -30,7 +29,7 @@ pub fn plain_frame_by_bytes(header: &Header, body: &[u8], frame: &mut [u8]) -> R
 }
 
 /// Reads the rows of each line, and gathers them into the cleared frame.
-fn plain_lines(
+fn lines(
     header: &Header,
     body: &[u8],
     frame: &mut [u8],
@@ -44,7 +43,7 @@ fn plain_lines(
     frame.fill(0);
     for line in frame.chunks_exact_mut(width) {
         for row in rows.chunks_exact_mut(length) {
-            place = plain_row(header, body, place, row)?;
+            place = read_row(header, body, place, row)?;
         }
         gather(&rows[..planes * length], length, line);
     }
@@ -52,9 +51,9 @@ fn plain_lines(
 }
 
 /// Reads one plane row and returns the next place.
-fn plain_row(header: &Header, body: &[u8], place: usize, row: &mut [u8]) -> Result<usize, Refused> {
+fn read_row(header: &Header, body: &[u8], place: usize, row: &mut [u8]) -> Result<usize, Refused> {
     if header.compression == 1 {
-        return plain_unpack(body, place, row);
+        return unpack(body, place, row);
     }
     let end = place + row.len();
     if end > body.len() {
@@ -64,7 +63,7 @@ fn plain_row(header: &Header, body: &[u8], place: usize, row: &mut [u8]) -> Resu
     Ok(end)
 }
 
-fn plain_unpack(body: &[u8], mut place: usize, row: &mut [u8]) -> Result<usize, Refused> {
+fn unpack(body: &[u8], mut place: usize, row: &mut [u8]) -> Result<usize, Refused> {
     let mut filled = 0;
     while filled < row.len() {
         let refuse = |number| Err(Refused { number, place });
@@ -97,7 +96,7 @@ fn plain_unpack(body: &[u8], mut place: usize, row: &mut [u8]) -> Result<usize, 
 }
 
 /// Packs a row into `out` and returns the length, or nothing if it is too short.
-pub fn plain_pack(row: &[u8], out: &mut [u8]) -> Option<usize> {
+pub fn pack(row: &[u8], out: &mut [u8]) -> Option<usize> {
     let mut at = 0;
     let mut length = 0;
     while at < row.len() {

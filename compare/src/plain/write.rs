@@ -1,12 +1,12 @@
-//! Straightforward picture writer, for benchmarks.
+//! A picture writer of one pass.
 
-use crate::plain_rows::plain_pack;
-use crate::write::Fields;
+use super::rows::pack;
+use second::Fields;
 
 /// Writes a picture with packed rows into `out`, each row gathered bit by bit
 /// and packed to its place, and gives the length. The fields must be ones that
 /// can be written; nothing if `out` is too short.
-pub fn plain_write(fields: &Fields, palette: &[u8], frame: &[u8], out: &mut [u8]) -> Option<usize> {
+pub fn write(fields: &Fields, palette: &[u8], frame: &[u8], out: &mut [u8]) -> Option<usize> {
     let mut at = 12;
     put_chunk(out, &mut at, b"BMHD", &header(fields))?;
     if !palette.is_empty() {
@@ -72,7 +72,7 @@ fn put_rows(fields: &Fields, frame: &[u8], out: &mut [u8], mut at: usize) -> Opt
             for (x, colour) in line.iter().enumerate() {
                 row[x / 8] |= (colour >> plane & 1) << (7 - x % 8);
             }
-            at += plain_pack(&row, out.get_mut(at..)?)?;
+            at += pack(&row, out.get_mut(at..)?)?;
         }
     }
     Some(at)

@@ -1,10 +1,6 @@
-//! Straightforward fast versions of the main calls, for benchmarks. They
-//! build no tree and share no code with the reader but its answers' types.
+//! The check, and the record of a number, each in one walk without a tree.
 
-use crate::answer::{Accepted, Refused};
-use crate::listing::Record;
-use crate::name::Name;
-use crate::tree::{Kind, LONGEST_FILE};
+use second::{Accepted, Kind, Name, Record, Refused, LONGEST_FILE};
 use std::collections::HashSet;
 
 /// The chunk whose members are being walked.
@@ -24,8 +20,8 @@ struct Header {
     size: usize,
 }
 
-/// The same answer as `check`, from a walk without a tree.
-pub fn plain_check(file: &[u8]) -> Result<Accepted, Refused> {
+/// The same answer as the check of the second reader.
+pub fn check(file: &[u8]) -> Result<Accepted, Refused> {
     if file.len() > LONGEST_FILE {
         return Err(Refused { number: 1, place: 0 });
     }
@@ -71,8 +67,8 @@ fn walk(file: &[u8], group: Group, mut place: usize, chunks: &mut usize) -> Resu
     Ok(())
 }
 
-/// The same answer as `record`, from one walk, which is the check too.
-pub fn plain_record(file: &[u8], number: usize) -> Result<Record, Refused> {
+/// The same answer as its record of a number; the walk to it is the check too.
+pub fn record(file: &[u8], number: usize) -> Result<Record, Refused> {
     let mut chunks = 0;
     let mut found = None;
     see_file(file, &mut |header| {

@@ -1,0 +1,13 @@
+//! Straightforward fast programs in Rust, which the benchmarks time beside the
+//! library. They share nothing with the second reader but the types of its
+//! answers; tests/plain.rs has what they give compared with it.
+
+mod listing;
+mod rows;
+mod structure;
+mod write;
+
+pub use listing::fill;
+pub use rows::{frame, frame_by_bytes, pack};
+pub use structure::{check, record};
+pub use write::write;
