@@ -11,8 +11,8 @@ use Rattle.ilbm_spec.specs.Contents.{Property, own, shared, absent}
 use Rattle.ilbm_spec.specs.Places.{placeOf}
 use Rattle.ilbm_spec.specs.Pictures.{Viewed, viewOf, dataOf, originOf, paletteFrom, paletteBytes, paletteOf}
 use Rattle.ilbm_members.specs.Members.{Shows, fromOf}
-use Rattle.ilbm_members.specs.declared.Part.{Part}
-use Rattle.ilbm_members.specs.declared.Part.the-variants.{Nothing, Between}
+use Rattle.ilbm_content.specs.declared.Part.{Part}
+use Rattle.ilbm_content.specs.declared.Part.the-variants.{Nothing, Between}
 use Rattle.ilbm_content.specs.declared.Held.{Held}
 use Rattle.ilbm_content.specs.declared.Contents.{Contents}
 use Rattle.ilbm_content.specs.Held.{HeldIs}

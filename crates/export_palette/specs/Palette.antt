@@ -6,8 +6,8 @@ use Rattle.ilbm_spec.specs.Names.{CMAP}
 use Rattle.ilbm_spec.specs.Places.{placeOf}
 use Rattle.ilbm_spec.specs.Pictures.{Viewed, viewOf, dataOf, originOf}
 use Rattle.ilbm_members.specs.Members.{fromOf}
-use Rattle.ilbm_members.specs.declared.Part.{Part}
-use Rattle.ilbm_members.specs.declared.Part.the-variants.{Nothing, Between}
+use Rattle.ilbm_content.specs.declared.Part.{Part}
+use Rattle.ilbm_content.specs.declared.Part.the-variants.{Nothing, Between}
 use Rattle.ilbm_find.specs.declared.View.{View}
 use Rattle.ilbm_find.specs.declared.View.the-variants.{Seen, Refused as View-refused}
 use Rattle.export_property_numbers.specs.Properties.{originNumber, sharedPlace}

@@ -2,7 +2,7 @@
 // its place.
 use export_property_numbers::origin_number;
 use export_property_numbers::shared_place;
-use ilbm_members::Part;
+use ilbm_content::Part;
 use ilbm_find::View;
 use ilbm_find::view_picture;
 ghost use mathlib.Core.Path.{_≡_};

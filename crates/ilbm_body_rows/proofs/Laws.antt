@@ -19,8 +19,9 @@ use Rattle.ilbm_spec.specs.declared.FrameAnswer.the-variants.{Leftover, Refused
 use Rattle.ilbm_spec.specs.Contents.{Content}
 use Rattle.ilbm_spec.specs.Pictures.{headerIn, dataOf, counts, wrongSize, headerRefusal, pictureRefusal}
 use Rattle.ilbm_spec.specs.Rows.{Read, rowsInLine, lineFrom, linesFrom, lineRead, frameRead, leftover, lineAnswer, frameAnswer, bytesAfter}
-use Rattle.ilbm_members.specs.declared.Part.the-variants.{Between}
-use Rattle.ilbm_members.specs.Members.{Shows, firstOf}
+use Rattle.ilbm_content.specs.declared.Part.the-variants.{Between}
+use Rattle.ilbm_content.specs.Held.{Shows}
+use Rattle.ilbm_members.specs.Gathers.{firstOf}
 use Rattle.ilbm_content.specs.declared.Contents.{Contents}
 use Rattle.ilbm_content.specs.Held.{ContentsAre}
 use Rattle.ilbm_properties.specs.Fields.{Judged, HeaderIs}

@@ -8,7 +8,7 @@ use ilbm_plane_rows::Scanned;
 use ilbm_scan_line::scan_row;
 ghost use mathlib.Core.Path.{_≡_};
 ghost use Prim.Native.Nat.{_-_};
-ghost use Rattle.ilbm_members.specs.declared.Part.the-variants.{Between};
+ghost use Rattle.ilbm_content.specs.declared.Part.the-variants.{Between};
 ghost use Rattle.ilbm_properties.specs.Fields.{Judged};
 ghost use Rattle.ilbm_body_rows.specs.Lines.{LineDone, FrameDone};
 

@@ -9,8 +9,8 @@ use Rattle.ilbm_spec.specs.Places.{placeOf}
 use Rattle.ilbm_spec.specs.Pictures.{viewOf, paletteFrom}
 use Rattle.ilbm_spec.specs.Palette.{sourceFrom, pointer}
 use Rattle.ilbm_members.specs.Members.{fromOf}
-use Rattle.ilbm_members.specs.declared.Part.{Part}
-use Rattle.ilbm_members.specs.declared.Part.the-variants.{Nothing, Between}
+use Rattle.ilbm_content.specs.declared.Part.{Part}
+use Rattle.ilbm_content.specs.declared.Part.the-variants.{Nothing, Between}
 use Rattle.ilbm_content.specs.declared.Held.{Held}
 use Rattle.ilbm_content.specs.declared.Contents.{Contents}
 use Rattle.ilbm_content.specs.Held.{HeldIs}

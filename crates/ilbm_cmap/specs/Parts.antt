@@ -4,8 +4,8 @@ use mathlib.Core.Path.{_≡_}
 use mathlib.Core.List.{List}
 use lib.ListN.{length, take, drop}
 use Rattle.ilbm_spec.specs.Palette.{Answer, paletteAnswer, paletteSource, pointer}
-use Rattle.ilbm_members.specs.declared.Part.{Part}
-use Rattle.ilbm_members.specs.declared.Part.the-variants.{Nothing, Between}
+use Rattle.ilbm_content.specs.declared.Part.{Part}
+use Rattle.ilbm_content.specs.declared.Part.the-variants.{Nothing, Between}
 use Rattle.ilbm_cmap.specs.declared.Colours.{Colours}
 
 -- a part lies inside the file

@@ -1,5 +1,5 @@
 // The palette of a picture.
-use ilbm_members::Part;
+use ilbm_content::Part;
 use ilbm_find::View;
 use ilbm_find::view_picture;
 ghost use mathlib.Core.Path.{_≡_};

@@ -1,31 +1,19 @@
 // The content of the picture in a FORM: each property that counts, with its origin, and the BODYs, as parts of the file.
 use iff_chunk::size_at;
+use ilbm_locate::Scope;
+use ilbm_locate::Shared;
+use ilbm_members::gather;
 use ilbm_spec::Origin;
-use ilbm_members::Part;
-use ilbm_members::count_bodies;
-use ilbm_members::first_body;
-use ilbm_members::last_named;
-use ilbm_members::until_body;
-use iff_name::Name;
-ghost use mathlib.Core.Path.{_≡_};
-ghost use mathlib.Core.Bool.{false};
-ghost use Rattle.iff_name.specs.Name.{kindOf};
-ghost use Rattle.iff_rules.specs.Rules.{isGroup};
-ghost use Rattle.ilbm_members.specs.Members.{Row, StopsAtBody};
-ghost use Rattle.ilbm_locate.specs.Spots.{Scoped};
-ghost use Rattle.ilbm_content.specs.Held.{SharedIs, PropertyIs, ContentIs};
+ghost use Prim.Native.Nat.{_+_};
+ghost use Rattle.ilbm_members.specs.Members.{Row};
+ghost use Rattle.ilbm_locate.specs.Scopes.{Scoped};
+ghost use Rattle.ilbm_content.specs.Held.{Marked, Known, PartIs, OwnOrShared, ContentIs};
 
-const BMHD: Name = Name { code: 0x424D4844 };
-
-const CMAP: Name = Name { code: 0x434D4150 };
-
-const GRAB: Name = Name { code: 0x47524142 };
-
-const DEST: Name = Name { code: 0x44455354 };
-
-const SPRT: Name = Name { code: 0x53505254 };
-
-const CAMG: Name = Name { code: 0x43414D47 };
+// A part of the file, from a place up to another, or nothing.
+pub enum Part {
+    Nothing,
+    Between(usize, usize),
+}
 
 // A property's data, and where it comes from.
 pub struct Held {
@@ -45,62 +33,61 @@ pub struct Contents {
     pub body: Part,
 }
 
-// The property of this name in the shared PROP at a place, 0 for no PROP.
-fn shared_property(s: &[u8], prop: usize, name: Name) -> Held
-    requires { ⌜ (Scoped (now s) prop) × (isGroup (kindOf (name .code)) ≡ false) ⌝ }
-    ensures { λ r. ⌜ SharedIs (now (s .entry)) prop (name .code) r ⌝ }
+// The data of the chunk at a place, 0 for none.
+fn part_at(s: &[u8], place: usize) -> Part
+    requires { ⌜ Marked (now s) place ⌝ }
+    ensures { λ r. ⌜ PartIs (now (s .entry)) place r ⌝ }
 {
-    if prop == 0 {
+    if place == 0 {
+        return Part::Nothing;
+    }
+    let size = size_at(s, place + 4);
+    Part::Between(place + 8, place + 8 + size)
+}
+
+// The property that a FORM has at a place, 0 for none, or else the shared one.
+fn property(s: &[u8], own: usize, other: Shared) -> Held
+    requires { ⌜ (Marked (now s) own) × (Known (now s) other) ⌝ }
+    ensures { λ r. ⌜ OwnOrShared (now (s .entry)) own other r ⌝ }
+{
+    if own != 0 {
         return Held {
-            part: Part::Nothing,
-            origin: Origin::Absent,
+            part: part_at(s, own),
+            origin: Origin::Own,
         };
     }
-    let end = prop + 8 + size_at(s, prop + 4);
-    let found = last_named(s, prop + 12, end, name);
-    match found {
-        Part::Nothing => Held {
-            part: Part::Nothing,
-            origin: Origin::Absent,
-        },
-        Part::Between(from, to) => Held {
-            part: Part::Between(from, to),
-            origin: Origin::Shared(prop),
-        },
+    if other.place != 0 {
+        return Held {
+            part: part_at(s, other.place),
+            origin: Origin::Shared(other.prop),
+        };
+    }
+    Held {
+        part: Part::Nothing,
+        origin: Origin::Absent,
     }
 }
 
-// The property of this name that counts in a FORM whose members stand from p to e, its first BODY at `body`.
-fn property(s: &[u8], p: usize, e: usize, body: usize, prop: usize, name: Name) -> Held
-    requires { ⌜ (Row (now s) p e) × (StopsAtBody (now s) p e body) × (Scoped (now s) prop) × (isGroup (kindOf (name .code)) ≡ false) ⌝ }
-    ensures { λ r. ⌜ PropertyIs (now (s .entry)) p e prop (name .code) r ⌝ }
+// The content of the FORM at a place, whose members end at e.
+pub fn content_at(s: &[u8], form: usize, e: usize, scope: Scope) -> Contents
+    requires { ⌜ (Row (now s) (form + 12) e) × (Scoped (now s) scope) ⌝ }
+    ensures { λ r. ⌜ ContentIs (now (s .entry)) form e scope r ⌝ }
 {
-    let own = last_named(s, p, body, name);
-    match own {
-        Part::Nothing => shared_property(s, prop, name),
-        Part::Between(from, to) => Held {
-            part: Part::Between(from, to),
-            origin: Origin::Own,
-        },
-    }
-}
-
-// The content of the FORM whose members stand from p to e.
-pub fn content_at(s: &[u8], p: usize, e: usize, prop: usize) -> Contents
-    requires { ⌜ (Row (now s) p e) × (Scoped (now s) prop) ⌝ }
-    ensures { λ r. ⌜ ContentIs (now (s .entry)) p e prop r ⌝ }
-{
-    let bodies = count_bodies(s, p, e);
-    let body = first_body(s, p, e);
-    let end = until_body(s, p, e);
+    let g = gather(s, form + 12, e, false);
+    let bmhd = scope.bmhd;
+    let cmap = scope.cmap;
+    let grab = scope.grab;
+    let dest = scope.dest;
+    let sprt = scope.sprt;
+    let camg = scope.camg;
     Contents {
-        bmhd: property(s, p, e, end, prop, BMHD),
-        cmap: property(s, p, e, end, prop, CMAP),
-        grab: property(s, p, e, end, prop, GRAB),
-        dest: property(s, p, e, end, prop, DEST),
-        sprt: property(s, p, e, end, prop, SPRT),
-        camg: property(s, p, e, end, prop, CAMG),
-        bodies,
-        body,
+        bmhd: property(s, g.bmhd, bmhd),
+        cmap: property(s, g.cmap, cmap),
+        grab: property(s, g.grab, grab),
+        dest: property(s, g.dest, dest),
+        sprt: property(s, g.sprt, sprt),
+        camg: property(s, g.camg, camg),
+        bodies: g.bodies,
+        body: part_at(s, g.body),
     }
 }

@@ -4,6 +4,7 @@ use ilbm_spec::BitmapHeader;
 use ilbm_spec::Destination;
 use ilbm_spec::HotSpot;
 ghost use mathlib.Core.Path.{_≡_};
+ghost use mathlib.Core.List.{[]};
 ghost use Prim.Native.Nat.{_+_, _*_, _≤_};
 ghost use lib.ListN.{length};
 ghost use Rattle.iff_chunk.specs.Chunks.{word};
@@ -67,6 +68,27 @@ pub fn bitmap_header(d: &[u8]) -> BitmapHeader
         y_aspect: d[15],
         page_width: signed_at(d, 16),
         page_height: signed_at(d, 18),
+    }
+}
+
+// The header of no BMHD: every field 0.
+pub fn no_header() -> BitmapHeader
+    ensures { λ r. ⌜ r ≡ headerIn [] ⌝ }
+{
+    BitmapHeader {
+        w: 0,
+        h: 0,
+        x: 0,
+        y: 0,
+        planes: 0,
+        masking: 0,
+        compression: 0,
+        pad1: 0,
+        transparent: 0,
+        x_aspect: 0,
+        y_aspect: 0,
+        page_width: 0,
+        page_height: 0,
     }
 }
 

@@ -1,32 +1,20 @@
--- What a group in a row of chunks shows of itself, and which PROP its members share.
+-- What a group in a row of chunks shows of itself.
 use Prim.Native.Nat.{ℕ, _+_, _-_, _*_, _≤_, _<_}
-use mathlib.Core.Path.{_≡_, refl, sym, ap, _∙_}
+use mathlib.Core.Path.{_≡_, refl, sym, _∙_}
 use mathlib.Core.Bool.{Bool, true, false}
-use mathlib.Core.List.{List, [], _∷_, _++_}
-use lib.Dec.{eqb}
+use mathlib.Core.List.{List, _++_}
 use lib.ListN.{length}
 use mir.Syntax.{w64}
 use mir.Val.{Fits}
-use borrow.Author.Tests.{eq-eqb, ne-eqb}
 use native.Mathlib.Omega.{arith}
-use Rattle.iff_name.specs.Name.{both, kindOf}
+use Rattle.iff_name.specs.Name.{kindOf}
 use Rattle.iff_name.specs.declared.Kind.{Kind}
 use Rattle.iff_chunk.specs.Chunks.{Chunks, none, leaf, group, bytes, word}
 use Rattle.iff_rules.specs.Rules.{isGroup}
 use Rattle.iff_grammar.specs.laws.Read.{leaf-name, group-fits, group-name, group-size, group-type, group-members, length-leaf, length-group}
-use Rattle.iff_name.specs.Codes.{LIST, PROP}
-use Rattle.ilbm_spec.specs.Names.{ILBM, isSharedProp}
-use Rattle.ilbm_spec.specs.Contents.{SharedProp, propAmong, scopeInside}
-use Rattle.ilbm_members.specs.declared.Sibling.{Sibling}
-use Rattle.ilbm_members.specs.Members.{Holds, Row, Front, Tells}
-use Rattle.ilbm_members.proofs.Laws.{row-room, row-next, row-le, more-room, more-less}
-use Rattle.ilbm_locate.specs.Spots.{Opens, ScopeIs, groupIs, Shares, ScopesInside, IsGroupOf, GroupAt}
-
-pub is-a-hit : (n t name kind : ℕ) → n ≡ name → eqb t kind ≡ both (eqb n name) (eqb t kind)
-is-a-hit n t name kind i = simp (eq-eqb _ _ i)
-
-pub is-a-miss : (n t name kind : ℕ) → (n ≡ name → ⊥) → false ≡ both (eqb n name) (eqb t kind)
-is-a-miss n t name kind i = simp (ne-eqb _ _ i)
+use Rattle.ilbm_members.specs.Members.{Holds, Row}
+use Rattle.ilbm_members.proofs.Laws.{row-room}
+use Rattle.ilbm_locate.specs.Spots.{Opens, groupIs, IsGroup, GroupAt}
 
 pub empty : length (bytes none) ≡ 0
 unfolding bytes
@@ -109,6 +97,9 @@ module _ (s : List ℕ) (q e : ℕ) where
   pub group-name-room : GroupAt s q e → q + 4 ≤ length s
   group-name-room a = omega (arith, group-at-room s q e a)
 
+  pub group-type-room : GroupAt s q e → q + 8 + 4 ≤ length s
+  group-type-room a = omega (arith, group-at-room s q e a)
+
   pub group-size-room : GroupAt s q e → q + 4 + 4 ≤ length s
   group-size-room a = omega (arith, group-at-room s q e a)
 
@@ -124,104 +115,48 @@ module _ (s : List ℕ) (q e : ℕ) where
 pub row-ends : (s : List ℕ) (q e : ℕ) → Row s q e → e ≤ length s
 row-ends s q e (F, R, h) = h .inside
 
--- whether the chunk at q is a group of a name and type
-module _ (s : List ℕ) (q e name kind : ℕ) (l : q < e) where
-  pub is-group-of : (n t : ℕ) (r : Bool) → isGroup (kindOf (word s q)) ≡ true → n ≡ word s q → t ≡ word s (q + 8) → r ≡ both (eqb n name) (eqb t kind) → IsGroupOf s q e name kind r
+-- whether the chunk at q is a group whose name and type pass a test
+module _ (s : List ℕ) (q e : ℕ) (test : ℕ → ℕ → Bool) (l : q < e) where
+  is-group-of : (n t : ℕ) (r : Bool) → isGroup (kindOf (word s q)) ≡ true → n ≡ word s q → t ≡ word s (q + 8) → r ≡ test n t → IsGroup s q e test r
   is-group-of n t r g i j y = record { at = go }
     where
-      go : (F : Chunks) (R : List ℕ) → Holds s q e F R → r ≡ groupIs name kind F
+      go : (F : Chunks) (R : List ℕ) → Holds s q e F R → r ≡ groupIs test F
       go none R h = absurd (omega (arith, empty, h .ends))
       go (leaf m d pd F) R h = absurd (leaf-no-group s q e m d pd F R h g)
       go (group m u G F) R h = y ∙ rw (i, j, name-here s q e m u G F R h, type-here s q e m u G F R h)
 
-  pub is-no-group : isGroup (kindOf (word s q)) ≡ false → IsGroupOf s q e name kind false
+  is-no-group : isGroup (kindOf (word s q)) ≡ false → IsGroup s q e test false
   is-no-group g = record { at = go }
     where
-      go : (F : Chunks) (R : List ℕ) → Holds s q e F R → false ≡ groupIs name kind F
+      go : (F : Chunks) (R : List ℕ) → Holds s q e F R → false ≡ groupIs test F
       go none R h = refl
       go (leaf m d pd F) R h = refl
       go (group m u G F) R h = never (sym (h .regular .0) ∙ (rw (name-here s q e m u G F R h) at g))
 
 pub group-tested :
-    (s : List ℕ) (q e name kind n t : ℕ) (k : Kind) (b r : Bool) → q < e → n ≡ word s q → k ≡ kindOf n → b ≡ isGroup k → b ≡ true →
-    t ≡ word s (q + 8) → r ≡ both (eqb n name) (eqb t kind) → IsGroupOf s q e name kind r
-group-tested s q e name kind n t k b r l i j y g x z = is-group-of s q e name kind l n t r (group-known s q n i k j b y g) i x z
+    (s : List ℕ) (q e n t : ℕ) (test : ℕ → ℕ → Bool) (k : Kind) (b r : Bool) → q < e → n ≡ word s q → k ≡ kindOf n → b ≡ isGroup k → b ≡ true →
+    t ≡ word s (q + 8) → r ≡ test n t → IsGroup s q e test r
+group-tested s q e n t test k b r l i j y g x z = is-group-of s q e test l n t r (group-known s q n i k j b y g) i x z
 
 pub leaf-tested :
-    (s : List ℕ) (q e name kind n : ℕ) (k : Kind) (b : Bool) → q < e → n ≡ word s q → k ≡ kindOf n → b ≡ isGroup k → b ≡ false →
-    IsGroupOf s q e name kind false
-leaf-tested s q e name kind n k b l i j y g = is-no-group s q e name kind l (leaf-known s q n i k j b y g)
+    (s : List ℕ) (q e n : ℕ) (test : ℕ → ℕ → Bool) (k : Kind) (b : Bool) → q < e → n ≡ word s q → k ≡ kindOf n → b ≡ isGroup k → b ≡ false →
+    IsGroup s q e test false
+leaf-tested s q e n test k b l i j y g = is-no-group s q e test l (leaf-known s q n i k j b y g)
 
--- the chunks still to come hold the PROP that is looked for
-pub record Sharing (s : List ℕ) (p e q : ℕ) : Type 0 where
-  pub at : (F : Chunks) (R : List ℕ) → Holds s p e F R → (K : Chunks) × Holds s q e K R × (propAmong q K ≡ propAmong p F)
+-- of a group that is known to be one
+pub group-is : (s : List ℕ) (q e n t : ℕ) (test : ℕ → ℕ → Bool) (r : Bool) → GroupAt s q e → n ≡ word s q → t ≡ word s (q + 8) → r ≡ test n t → IsGroup s q e test r
+group-is s q e n t test r a i j y = is-group-of s q e test (a .1) n t r (a .2) i j y
 
-module _ (s : List ℕ) (p e : ℕ) where
-  pub sharing-start : Sharing s p e p
-  sharing-start = record { at = λ F R h. (F, h, refl) }
-
-  module _ (q : ℕ) (b : Bool) (g : IsGroupOf s q e PROP ILBM b) (w : Sharing s p e q) where
-    pub sharing-more : (m : Sibling) → b ≡ false → Tells s q e m → Sharing s p e (m .next)
-    unfolding propAmong
-    sharing-more m i t = record { at = λ F R h. let x = w .at F R h in go F R (x .0) (x .1) (x .2) (t .front (x .0) R (x .1)) (g .at (x .0) R (x .1)) }
-      where
-        go :
-            (F : Chunks) (R : List ℕ) (K : Chunks) → Holds s q e K R → propAmong q K ≡ propAmong p F →
-            Front s e (m .name .code) (m .from) (m .to) (m .next) K R → b ≡ groupIs PROP ILBM K →
-            (K' : Chunks) × Holds s (m .next) e K' R × (propAmong (m .next) K' ≡ propAmong p F)
-        go F R none h u f y = absurd f
-        go F R (leaf n d pd K) h u f y =
-            let j : q + (8 + length d + length pd) ≡ m .next = omega (arith, length-leaf n d pd K, h .ends, f .2 .ends) in
-            (K, f .2, ap (λ (x : ℕ). propAmong x K) (sym j) ∙ u)
-        go F R (group n x G K) h u f y =
-            let j : q + (12 + length (bytes G)) ≡ m .next = omega (arith, length-group n x G K, h .ends, f .1 .ends) in
-            let v : isSharedProp n x ≡ false = sym y ∙ i in
-            (K, f .1, ap (λ (z : ℕ). propAmong z K) (sym j) ∙ (rw v at u))
-
-    pub sharing-hit : (prop : ℕ) → b ≡ true → 0 < p → p ≤ q → Shares s p e prop q
-    unfolding propAmong
-    sharing-hit prop i a a' = record { at = λ F R scope h k. let x = w .at F R h in go F R scope (x .0) (x .1) (x .2) (g .at (x .0) R (x .1)) }
-      where
-        go :
-            (F : Chunks) (R : List ℕ) (scope : List SharedProp) (K : Chunks) → Holds s q e K R → propAmong q K ≡ propAmong p F →
-            b ≡ groupIs PROP ILBM K → ScopeIs s q (propAmong p F ++ scope)
-        go F R scope none h u y = never (sym i ∙ y)
-        go F R scope (leaf n d pd K) h u y = never (sym i ∙ y)
-        go F R scope (group n x G K) h u y =
-            let v : isSharedProp n x ≡ true = sym y ∙ i in
-            let w' : record { place = q; members = G } ∷ [] ≡ propAmong p F = rw v at u in
-            rw (← w') (refl, omega arith, opens-here s q e n x G K R h)
-
-  pub sharing-end : (q prop : ℕ) → e ≤ q → Sharing s p e q → Shares s p e prop prop
-  unfolding propAmong
-  sharing-end q prop l w = record { at = λ F R scope h k. let x = w .at F R h in go F R scope k (x .0) (x .1) (x .2) }
-    where
-      go :
-          (F : Chunks) (R : List ℕ) (scope : List SharedProp) → ScopeIs s prop scope → (K : Chunks) → Holds s q e K R → propAmong q K ≡ propAmong p F →
-          ScopeIs s prop (propAmong p F ++ scope)
-      go F R scope k none h u = rw (← u) k
-      go F R scope k (leaf n d pd K) h u = absurd (omega (arith, length-leaf n d pd K, h .ends))
-      go F R scope k (group n x G K) h u = absurd (omega (arith, length-group n x G K, h .ends))
-
--- the scope inside a group
-module _ (s : List ℕ) (q e prop : ℕ) (n : ℕ) (i : n ≡ word s q) where
-  pub scope-list : (z r : ℕ) → n ≡ LIST → z ≡ word s (q + 4) → Shares s (q + 12) (q + 8 + z) prop r → ScopesInside s q e prop r
-  scope-list z r j y x = record { at = go }
-    where
-      go : (m t : ℕ) (G F : Chunks) (R : List ℕ) (scope : List SharedProp) → Holds s q e (group m t G F) R → ScopeIs s prop scope → ScopeIs s r (scopeInside m q G scope)
-      go m t G F R scope h k =
-          let a : m ≡ LIST = sym (name-here s q e m t G F R h) ∙ (sym i ∙ j) in
-          rw (eq-eqb _ _ a) (x .at G (bytes F ++ R) scope (rw y (inner-holds s q e m t G F R h)) k)
-
-  pub scope-same : (n ≡ LIST → ⊥) → ScopesInside s q e prop prop
-  scope-same j = record { at = go }
-    where
-      go : (m t : ℕ) (G F : Chunks) (R : List ℕ) (scope : List SharedProp) → Holds s q e (group m t G F) R → ScopeIs s prop scope → ScopeIs s prop (scopeInside m q G scope)
-      go m t G F R scope h k = rw (ne-eqb m LIST (λ a. j (i ∙ (name-here s q e m t G F R h ∙ a)))) k
-
-pub ruleset sharing-laws = (sharing-start, sharing-more, sharing-hit, row-next, more-room, more-less, row-le)
+-- a chunk that passes a test is a group
+pub tested-group : (s : List ℕ) (q e : ℕ) (test : ℕ → ℕ → Bool) (b : Bool) → Row s q e → q < e → IsGroup s q e test b → b ≡ true → GroupAt s q e
+tested-group s q e test b (F, R, h) l g i = go F R h (g .at F R h)
+  where
+    go : (F : Chunks) (R : List ℕ) → Holds s q e F R → b ≡ groupIs test F → GroupAt s q e
+    go none R h y = never (sym i ∙ y)
+    go (leaf n d pd F) R h y = never (sym i ∙ y)
+    go (group n t G F) R h y = ((group n t G F, R, h), l, rw (name-here s q e n t G F R h) (h .regular .0))
 
 pub positive : (q : ℕ) → 0 < q + 12
 positive q = omega arith
 
-pub ruleset group-laws = (name-room, type-room, group-name-room, group-size-room, inner-fits, inner-less, inner-row, group-at, scope-list, scope-same, positive)
+pub ruleset group-laws = (name-room, type-room, group-name-room, group-type-room, group-size-room, inner-fits, inner-less, inner-row, group-at, positive)

@@ -1,119 +1,163 @@
-// Finds the picture of a given number in a sound file, and the PROP that it may share.
+// Finds the picture of a given number in a sound file, and what the PROPs around it share.
 use iff_chunk::name_at;
 use iff_chunk::size_at;
-use ilbm_members::sibling_at;
 use iff_name::Name;
 use iff_rules::is_group;
+use ilbm_members::gather;
+use ilbm_members::sibling_at;
+use ilbm_names::is_picture;
+use ilbm_names::is_shared_prop;
 ghost use Prim.Native.Nat.{_+_, _<_};
 ghost use mathlib.Core.Path.{_≡_};
-ghost use Rattle.iff_name.specs.Name.{both};
-ghost use lib.Dec.{eqb};
+ghost use Rattle.ilbm_spec.specs.Names.{isSharedProp};
 ghost use Rattle.ilbm_members.specs.Members.{Row};
-ghost use Rattle.ilbm_locate.specs.Spots.{Seeks, Visits, Enters, Scoped, Shares, ScopesInside, IsGroupOf, GroupAt};
+ghost use Rattle.ilbm_locate.specs.Scopes.{noneShared, Scoped, PropGives, ListGives, GivesInside};
+ghost use Rattle.ilbm_locate.specs.Spots.{Seeks, Visits, Enters, IsGroup, GroupAt};
 
-const ILBM: u32 = 0x494C424D;
+// A property that a PROP shares: the PROP's place, and the property's own, 0 for none.
+pub struct Shared {
+    pub prop: usize,
+    pub place: usize,
+}
 
-// The FORM's place and its shared PROP's place, 0 if it has none; or how many pictures are left to pass.
+// What the PROPs around a chunk share.
+pub struct Scope {
+    pub bmhd: Shared,
+    pub cmap: Shared,
+    pub grab: Shared,
+    pub dest: Shared,
+    pub sprt: Shared,
+    pub camg: Shared,
+}
+
+// The FORM's place and what is shared there; or how many pictures are left to pass.
 pub enum Spot {
-    Here(usize, usize),
+    Here(usize, Scope),
     Left(usize),
 }
 
-// Whether a group's name and type are these.
-fn is_a(n: Name, t: Name, name: Name, kind: u32) -> bool
-    ensures { λ r. ⌜ r ≡ both (eqb (n .code) (name .code)) (eqb (t .code) kind) ⌝ }
+// Outside every LIST nothing is shared.
+pub fn none_shared() -> Scope
+    ensures { λ r. ⌜ r ≡ noneShared ⌝ }
 {
-    if n.code == name.code {
-        t.code == kind
-    } else {
-        false
+    let none = Shared { prop: 0, place: 0 };
+    Scope {
+        bmhd: none,
+        cmap: none,
+        grab: none,
+        dest: none,
+        sprt: none,
+        camg: none,
     }
 }
 
-// Whether the member at q is a group of this name and type.
-fn group_is(s: &[u8], q: usize, e: usize, name: Name, kind: u32) -> bool
+// Whether the member at q is a PROP that pictures share.
+fn shared_prop_at(s: &[u8], q: usize, e: usize) -> bool
     requires { ⌜ (Row (now s) q e) × (q < e) ⌝ }
-    ensures { λ r. ⌜ IsGroupOf (now (s .entry)) q e (name .code) kind r ⌝ }
+    ensures { λ r. ⌜ IsGroup (now (s .entry)) q e isSharedProp r ⌝ }
 {
     let n = name_at(s, q);
     if is_group(n.kind()) {
-        return is_a(n, name_at(s, q + 8), name, kind);
+        return is_shared_prop(n, name_at(s, q + 8));
     }
     false
 }
 
-// The place of the PROP ILBM among the members of a LIST, or else the one around the LIST.
-fn shared_prop(s: &[u8], p: usize, e: usize, prop: usize) -> usize
-    requires { ⌜ (Row (now s) p e) × (0 < p) ⌝ }
-    ensures { λ r. ⌜ Shares (now (s .entry)) p e prop r ⌝ }
+// What the PROP at q shares.
+fn prop_scope(s: &[u8], q: usize, e: usize) -> Scope
+    requires { ⌜ GroupAt (now s) q e ⌝ }
+    ensures { λ r. ⌜ PropGives (now (s .entry)) q r ⌝ }
+{
+    let end = q + 8 + size_at(s, q + 4);
+    let g = gather(s, q + 12, end, true);
+    let bmhd = Shared { prop: q, place: g.bmhd };
+    let cmap = Shared { prop: q, place: g.cmap };
+    let grab = Shared { prop: q, place: g.grab };
+    let dest = Shared { prop: q, place: g.dest };
+    let sprt = Shared { prop: q, place: g.sprt };
+    let camg = Shared { prop: q, place: g.camg };
+    Scope {
+        bmhd,
+        cmap,
+        grab,
+        dest,
+        sprt,
+        camg,
+    }
+}
+
+// What is shared among the members of a LIST from p to e, in the scope around it.
+fn list_scope(s: &[u8], p: usize, e: usize, scope: Scope) -> Scope
+    requires { ⌜ Row (now s) p e ⌝ }
+    ensures { λ r. ⌜ ListGives (now (s .entry)) p e scope r ⌝ }
 {
     let mut q = p;
     while q < e {
-        if group_is(s, q, e, Name::PROP, ILBM) {
-            return q;
+        if shared_prop_at(s, q, e) {
+            return prop_scope(s, q, e);
         }
         q = sibling_at(s, q, e).next;
     }
-    prop
+    scope
 }
 
-// The shared PROP for the members of the group at q.
-fn inner_scope(s: &[u8], q: usize, e: usize, prop: usize) -> usize
+// What is shared among the members of the group at q.
+fn inner_scope(s: &[u8], q: usize, e: usize, scope: Scope) -> Scope
     requires { ⌜ GroupAt (now s) q e ⌝ }
-    ensures { λ r. ⌜ ScopesInside (now (s .entry)) q e prop r ⌝ }
+    ensures { λ r. ⌜ GivesInside (now (s .entry)) q e scope r ⌝ }
 {
     if name_at(s, q).code == Name::LIST.code {
         let end = q + 8 + size_at(s, q + 4);
-        return shared_prop(s, q + 12, end, prop);
+        return list_scope(s, q + 12, end, scope);
     }
-    prop
+    scope
 }
 
 // The k-th picture from here on inside the group at q.
-fn enter(s: &[u8], q: usize, e: usize, prop: usize, k: usize) -> Spot
-    requires { ⌜ (GroupAt (now s) q e) × (Scoped (now s) prop) ⌝ }
-    ensures { λ r. ⌜ Enters (now (s .entry)) q e prop k r ⌝ }
+fn enter(s: &[u8], q: usize, e: usize, scope: Scope, k: usize) -> Spot
+    requires { ⌜ (GroupAt (now s) q e) × (Scoped (now s) scope) ⌝ }
+    ensures { λ r. ⌜ Enters (now (s .entry)) q e scope k r ⌝ }
 {
     let end = q + 8 + size_at(s, q + 4);
-    let scope = inner_scope(s, q, e, prop);
-    seek(s, q + 12, end, scope, k)
+    let inner = inner_scope(s, q, e, scope);
+    seek(s, q + 12, end, inner, k)
 }
 
 // The same for the group at q itself and what is inside it.
-fn open(s: &[u8], q: usize, e: usize, prop: usize, k: usize) -> Spot
-    requires { ⌜ (GroupAt (now s) q e) × (Scoped (now s) prop) ⌝ }
-    ensures { λ r. ⌜ Visits (now (s .entry)) q e prop k r ⌝ }
+fn open(s: &[u8], q: usize, e: usize, scope: Scope, k: usize) -> Spot
+    requires { ⌜ (GroupAt (now s) q e) × (Scoped (now s) scope) ⌝ }
+    ensures { λ r. ⌜ Visits (now (s .entry)) q e scope k r ⌝ }
 {
-    if group_is(s, q, e, Name::FORM, ILBM) {
+    if is_picture(name_at(s, q), name_at(s, q + 8)) {
         if k == 0 {
-            return Spot::Here(q, prop);
+            return Spot::Here(q, scope);
         }
-        return enter(s, q, e, prop, k - 1);
+        return enter(s, q, e, scope, k - 1);
     }
-    enter(s, q, e, prop, k)
+    enter(s, q, e, scope, k)
 }
 
 // The same for any member.
-fn visit(s: &[u8], q: usize, e: usize, prop: usize, k: usize) -> Spot
-    requires { ⌜ (Row (now s) q e) × (q < e) × (Scoped (now s) prop) ⌝ }
-    ensures { λ r. ⌜ Visits (now (s .entry)) q e prop k r ⌝ }
+fn visit(s: &[u8], q: usize, e: usize, scope: Scope, k: usize) -> Spot
+    requires { ⌜ (Row (now s) q e) × (q < e) × (Scoped (now s) scope) ⌝ }
+    ensures { λ r. ⌜ Visits (now (s .entry)) q e scope k r ⌝ }
 {
     let n = name_at(s, q);
     if is_group(n.kind()) {
-        return open(s, q, e, prop, k);
+        return open(s, q, e, scope, k);
     }
     Spot::Left(k)
 }
 
 // The same for all members from p to e.
-pub fn seek(s: &[u8], p: usize, e: usize, prop: usize, k: usize) -> Spot
-    requires { ⌜ (Row (now s) p e) × (Scoped (now s) prop) ⌝ }
-    ensures { λ r. ⌜ Seeks (now (s .entry)) p e prop k r ⌝ }
+pub fn seek(s: &[u8], p: usize, e: usize, scope: Scope, k: usize) -> Spot
+    requires { ⌜ (Row (now s) p e) × (Scoped (now s) scope) ⌝ }
+    ensures { λ r. ⌜ Seeks (now (s .entry)) p e scope k r ⌝ }
 {
     let mut q = p;
     let mut left = k;
     while q < e {
-        let v = visit(s, q, e, prop, left);
+        let v = visit(s, q, e, scope, left);
         match v {
             Spot::Here(form, shared) => {
                 return Spot::Here(form, shared);

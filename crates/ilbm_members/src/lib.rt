@@ -1,29 +1,23 @@
-// What is looked up among the members of one group of a sound file, by loops over the places of the members.
+// The members of one group of a sound file, by a loop over their places.
 use iff_chunk::name_at;
 use iff_chunk::size_at;
 use iff_name::Name;
+use ilbm_names::BMHD;
+use ilbm_names::BODY;
+use ilbm_names::CAMG;
+use ilbm_names::CMAP;
+use ilbm_names::DEST;
+use ilbm_names::GRAB;
+use ilbm_names::SPRT;
 ghost use mathlib.Core.Path.{_≡_};
-ghost use mathlib.Core.Bool.{false};
-ghost use Prim.Native.Nat.{_+_, _<_};
-ghost use Rattle.iff_name.specs.Name.{pick, kindOf};
-ghost use Rattle.iff_rules.specs.Rules.{isGroup};
-ghost use Rattle.ilbm_spec.specs.Names.{BODY};
-ghost use Rattle.ilbm_members.specs.Members.{Row, Tells, IsLast, CountsBodies, StopsAtBody, IsBody};
-ghost use Rattle.ilbm_members.specs.declared.Part.the-variants.{Between};
+ghost use Prim.Native.Nat.{_<_, _≤_};
+ghost use Rattle.iff_name.specs.Name.{pick};
+ghost use Rattle.ilbm_members.specs.Members.{Row, Tells};
+ghost use Rattle.ilbm_members.specs.Gathers.{noneYet, takenWith, Gathers};
 
-const BODY: u32 = 0x424F4459;
-
-// A part of the file, from a place up to another, or nothing.
-pub enum Part {
-    Nothing,
-    Between(usize, usize),
-}
-
-// One member: its name, where its data lies, and where the next member stands.
+// One member: its name, and where the next member stands.
 pub struct Sibling {
     pub name: Name,
-    pub from: usize,
-    pub to: usize,
     pub next: usize,
 }
 
@@ -35,86 +29,81 @@ pub fn sibling_at(s: &[u8], p: usize, e: usize) -> Sibling
     let z = size_at(s, p + 4);
     Sibling {
         name: name_at(s, p),
-        from: p + 8,
-        to: p + 8 + z,
         next: p + 8 + (z + 1) / 2 * 2,
     }
 }
 
-fn newer(hit: bool, m: Sibling, old: Part) -> Part
-    ensures { λ r. ⌜ r ≡ pick hit (Between (m .from) (m .to)) old ⌝ }
+// Where the chunks stand that count among the members of a group, 0 for none: the last of each property's name, and the first BODY;
+// and how many BODYs there are.
+pub struct Gathered {
+    pub bmhd: usize,
+    pub cmap: usize,
+    pub grab: usize,
+    pub dest: usize,
+    pub sprt: usize,
+    pub camg: usize,
+    pub body: usize,
+    pub bodies: usize,
+}
+
+fn none_yet() -> Gathered
+    ensures { λ r. ⌜ r ≡ noneYet ⌝ }
 {
-    if hit {
-        Part::Between(m.from, m.to)
-    } else {
-        old
+    Gathered {
+        bmhd: 0,
+        cmap: 0,
+        grab: 0,
+        dest: 0,
+        sprt: 0,
+        camg: 0,
+        body: 0,
+        bodies: 0,
     }
 }
 
-// The data of the last member of this name.
-pub fn last_named(s: &[u8], p: usize, e: usize, name: Name) -> Part
-    requires { ⌜ (Row (now s) p e) × (isGroup (kindOf (name .code)) ≡ false) ⌝ }
-    ensures { λ r. ⌜ IsLast (now (s .entry)) p e (name .code) r ⌝ }
+fn newer(hit: bool, place: usize, old: usize) -> usize
+    ensures { λ r. ⌜ r ≡ pick hit place old ⌝ }
 {
-    let mut q = p;
-    let mut part = Part::Nothing;
-    while q < e {
-        let m = sibling_at(s, q, e);
-        part = newer(m.name.code == name.code, m, part);
-        q = m.next;
-    }
-    part
+    if hit { place } else { old }
 }
 
 fn one_if(hit: bool) -> usize
-    ensures { λ r. ⌜ r ≡ pick hit 1 0 ⌝ }
+    ensures { λ r. ⌜ (r ≡ pick hit 1 0) × (r ≤ 1) ⌝ }
 {
     if hit { 1 } else { 0 }
 }
 
-// How many members are BODYs.
-pub fn count_bodies(s: &[u8], p: usize, e: usize) -> usize
-    requires { ⌜ Row (now s) p e ⌝ }
-    ensures { λ r. ⌜ CountsBodies (now (s .entry)) p e r ⌝ }
+// The member of name n at q added to what was gathered before it. Properties after a BODY are left out unless the whole group counts.
+fn taken(n: Name, q: usize, g: Gathered, whole: bool) -> Gathered
+    requires { ⌜ g .bodies < 16777216 ⌝ }
+    ensures { λ r. ⌜ r ≡ takenWith (n .code) q g whole ⌝ }
 {
-    let mut q = p;
-    let mut n = 0;
-    while q < e {
-        let m = sibling_at(s, q, e);
-        n = n + one_if(m.name.code == BODY);
-        q = m.next;
+    let first = g.bodies == 0;
+    let open = whole | first;
+    let body = n.code == BODY.code;
+    Gathered {
+        bmhd: newer(open & (n.code == BMHD.code), q, g.bmhd),
+        cmap: newer(open & (n.code == CMAP.code), q, g.cmap),
+        grab: newer(open & (n.code == GRAB.code), q, g.grab),
+        dest: newer(open & (n.code == DEST.code), q, g.dest),
+        sprt: newer(open & (n.code == SPRT.code), q, g.sprt),
+        camg: newer(open & (n.code == CAMG.code), q, g.camg),
+        body: newer(first & body, q, g.body),
+        bodies: g.bodies + one_if(body),
     }
-    n
 }
 
-// The place of the first BODY, or the end if there is none.
-pub fn until_body(s: &[u8], p: usize, e: usize) -> usize
-    requires { ⌜ Row (now s) p e ⌝ }
-    ensures { λ r. ⌜ StopsAtBody (now (s .entry)) p e r ⌝ }
+// What the members from p to e give, in one pass: the properties of a FORM end at its first BODY, those of a PROP don't.
+pub fn gather(s: &[u8], p: usize, e: usize, whole: bool) -> Gathered
+    requires { ⌜ (Row (now s) p e) × (0 < p) ⌝ }
+    ensures { λ r. ⌜ Gathers (now (s .entry)) p e whole r ⌝ }
 {
     let mut q = p;
+    let mut g = none_yet();
     while q < e {
         let m = sibling_at(s, q, e);
-        if m.name.code == BODY {
-            return q;
-        }
+        g = taken(m.name, q, g, whole);
         q = m.next;
     }
-    q
-}
-
-// The data of the first BODY.
-pub fn first_body(s: &[u8], p: usize, e: usize) -> Part
-    requires { ⌜ Row (now s) p e ⌝ }
-    ensures { λ r. ⌜ IsBody (now (s .entry)) p e r ⌝ }
-{
-    let mut q = p;
-    while q < e {
-        let m = sibling_at(s, q, e);
-        if m.name.code == BODY {
-            return Part::Between(m.from, m.to);
-        }
-        q = m.next;
-    }
-    Part::Nothing
+    g
 }

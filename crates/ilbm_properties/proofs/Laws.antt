@@ -17,7 +17,7 @@ use Rattle.ilbm_spec.specs.declared.Picture.{Picture}
 use Rattle.ilbm_spec.specs.declared.PictureAnswer.the-variants.{Shown, Refused}
 use Rattle.ilbm_spec.specs.Contents.{Property, own, shared, absent, Content}
 use Rattle.ilbm_spec.specs.Pictures.{u16, headerIn, hotSpotIn, destinationIn, dataOf, originOf, counts, sizeNot, sizeNotTriples, wrongSize, headerRefusal, pictureRefusal, pictureFrom, viewOf, pictureOf}
-use Rattle.ilbm_members.specs.declared.Part.the-variants.{Nothing, Between}
+use Rattle.ilbm_content.specs.declared.Part.the-variants.{Nothing, Between}
 use Rattle.ilbm_content.specs.declared.Held.{Held}
 use Rattle.ilbm_content.specs.declared.Contents.{Contents}
 use Rattle.ilbm_content.specs.Held.{HeldIs}

@@ -11,7 +11,7 @@ use ilbm_spec::Destination;
 use ilbm_spec::HotSpot;
 use ilbm_spec::Picture;
 use ilbm_spec::PictureAnswer;
-use ilbm_members::Part;
+use ilbm_content::Part;
 use ilbm_find::View;
 use ilbm_find::view_picture;
 ghost use mathlib.Core.Path.{_≡_};

@@ -11,8 +11,8 @@ use native.Mathlib.Omega.{arith}
 use Rattle.ilbm_spec.specs.declared.BitmapHeader.{BitmapHeader}
 use Rattle.ilbm_spec.specs.Contents.{Property, own, shared, absent, Content}
 use Rattle.ilbm_spec.specs.Pictures.{dataOf, counts, wrongSize, headerRefusal}
-use Rattle.ilbm_members.specs.declared.Part.the-variants.{Nothing, Between}
-use Rattle.ilbm_members.specs.Members.{Shows}
+use Rattle.ilbm_content.specs.declared.Part.the-variants.{Nothing, Between}
+use Rattle.ilbm_content.specs.Held.{Shows}
 use Rattle.ilbm_content.specs.declared.Held.{Held}
 use Rattle.ilbm_content.specs.declared.Contents.{Contents}
 use Rattle.ilbm_content.specs.Held.{HeldIs, ContentsAre}

@@ -4,7 +4,8 @@ use mathlib.Core.Path.{_≡_}
 use mathlib.Core.Bool.{Bool}
 use mathlib.Core.List.{List}
 use Rattle.ilbm_spec.specs.Contents.{Property, Content}
-use Rattle.ilbm_spec.specs.Pictures.{sizeNot, sizeNotTriples, wrongSize, pictureRefusal}
+use Rattle.ilbm_spec.specs.Pictures.{sizeNot, sizeNotTriples, wrongSize, pictureRefusal, dataOf, headerIn}
+use Rattle.ilbm_refusals.specs.declared.Judgement.{Judgement}
 use Rattle.ilbm_content.specs.declared.Held.{Held}
 use Rattle.ilbm_content.specs.declared.Contents.{Contents}
 use Rattle.ilbm_content.specs.Held.{HeldIs, ContentsAre}
@@ -26,6 +27,7 @@ pub record TriplesIs (h : Held) (b : Bool) : Type 0 where
 pub record SizesAre (s : List ℕ) (c : Contents) (b : Bool) : Type 0 where
   pub at : (x : Content) → ContentsAre s c x → b ≡ wrongSize x
 
--- n is the number of the refusal, or 0
-pub record RefusalIs (s : List ℕ) (c : Contents) (n : ℕ) : Type 0 where
-  pub at : (x : Content) → ContentsAre s c x → n ≡ pictureRefusal x
+-- the number is that of the refusal, or 0 with the header that counts
+pub record JudgementIs (s : List ℕ) (c : Contents) (r : Judgement) : Type 0 where
+  pub number : (x : Content) → ContentsAre s c x → r .number ≡ pictureRefusal x
+  pub header : (x : Content) → ContentsAre s c x → r .number ≡ 0 → r .header ≡ headerIn (dataOf (x .bmhd))

@@ -2,12 +2,19 @@
 use ilbm_content::Contents;
 use ilbm_content::Held;
 use ilbm_fields::bitmap_header;
+use ilbm_fields::no_header;
 use ilbm_spec::BitmapHeader;
-use ilbm_members::Part;
+use ilbm_content::Part;
 ghost use mathlib.Core.Path.{_≡_};
 ghost use Rattle.ilbm_spec.specs.Pictures.{headerRefusal};
-ghost use Rattle.ilbm_refusals.specs.Refusals.{Sized, Full, SizeIs, TriplesIs, SizesAre, RefusalIs};
-ghost use Rattle.ilbm_members.specs.declared.Part.the-variants.{Between};
+ghost use Rattle.ilbm_refusals.specs.Refusals.{Sized, Full, SizeIs, TriplesIs, SizesAre, JudgementIs};
+ghost use Rattle.ilbm_content.specs.declared.Part.the-variants.{Between};
+
+// 0 or the number of a refusal; and with 0 the header, read once for all calls.
+pub struct Judgement {
+    pub number: usize,
+    pub header: BitmapHeader,
+}
 
 fn size_not(h: Held, n: usize) -> bool
     requires { ⌜ Sized h ⌝ }
@@ -87,30 +94,39 @@ fn header_refusal(b: BitmapHeader, body: bool) -> usize
     0
 }
 
-// 22 to 24, of a picture whose BMHD is a part of the file.
-fn sized_refusal(s: &[u8], c: Contents, from: usize, to: usize) -> usize
-    requires { ⌜ (Full (now s) c) × (c .bmhd .part ≡ Between from to) ⌝ }
-    ensures { λ r. ⌜ RefusalIs (now (s .entry)) c r ⌝ }
+// A refusal before any header is read.
+fn refused(number: usize) -> Judgement
+    ensures { λ r. ⌜ r .number ≡ number ⌝ }
 {
-    if 1 < c.bodies {
-        return 22;
-    }
-    if wrong_size(s, c) {
-        return 23;
-    }
-    let header = bitmap_header(&s[from..to]);
-    header_refusal(header, 0 < c.bodies)
+    let header = no_header();
+    Judgement { number, header }
 }
 
-// 21 to 24, or 0.
-pub fn refusal(s: &[u8], c: Contents) -> usize
+// 22 to 24, of a picture whose BMHD is a part of the file.
+fn judge_header(s: &[u8], c: Contents, from: usize, to: usize) -> Judgement
+    requires { ⌜ (Full (now s) c) × (c .bmhd .part ≡ Between from to) ⌝ }
+    ensures { λ r. ⌜ JudgementIs (now (s .entry)) c r ⌝ }
+{
+    if 1 < c.bodies {
+        return refused(22);
+    }
+    if wrong_size(s, c) {
+        return refused(23);
+    }
+    let header = bitmap_header(&s[from..to]);
+    let number = header_refusal(header, 0 < c.bodies);
+    Judgement { number, header }
+}
+
+// 21 to 24, or 0 with the header.
+pub fn judge(s: &[u8], c: Contents) -> Judgement
     requires { ⌜ Full (now s) c ⌝ }
-    ensures { λ r. ⌜ RefusalIs (now (s .entry)) c r ⌝ }
+    ensures { λ r. ⌜ JudgementIs (now (s .entry)) c r ⌝ }
 {
     let bmhd = c.bmhd;
     let part = bmhd.part;
     match part {
-        Part::Nothing => 21,
-        Part::Between(from, to) => sized_refusal(s, c, from, to),
+        Part::Nothing => refused(21),
+        Part::Between(from, to) => judge_header(s, c, from, to),
     }
 }

@@ -9,8 +9,9 @@ use Rattle.ilbm_spec.specs.declared.FrameAnswer.{FrameAnswer}
 use Rattle.ilbm_spec.specs.declared.FrameAnswer.the-variants.{Refused as Frame-refused}
 use Rattle.ilbm_spec.specs.Pictures.{viewOf}
 use Rattle.ilbm_spec.specs.Rows.{lineAnswer, frameAnswer, bytesAfter, lineOf, frameOf}
-use Rattle.ilbm_members.specs.declared.Part.the-variants.{Nothing}
-use Rattle.ilbm_members.specs.Members.{Shows, firstOf}
+use Rattle.ilbm_content.specs.declared.Part.the-variants.{Nothing}
+use Rattle.ilbm_content.specs.Held.{Shows}
+use Rattle.ilbm_members.specs.Gathers.{firstOf}
 use Rattle.ilbm_content.specs.declared.Contents.{Contents}
 use Rattle.ilbm_find.specs.declared.View.{View}
 use Rattle.ilbm_find.specs.declared.View.the-variants.{Seen, Refused as View-refused}

@@ -4,7 +4,7 @@ use ilbm_body_rows::body_line;
 use ilbm_content::Contents;
 use ilbm_spec::FrameAnswer;
 use ilbm_spec::LineAnswer;
-use ilbm_members::Part;
+use ilbm_content::Part;
 use ilbm_find::View;
 use ilbm_find::view_picture;
 ghost use mathlib.Core.Path.{_≡_};

@@ -1,35 +1,32 @@
--- The members before the first BODY are a row of their own: the last one of the name counts, and where there is none the shared
--- PROP decides.
-use Rattle.ilbm_content.proofs.Laws.{until-row, counts-own, counts-shared}
+-- A property of the FORM's own counts, and else the shared one, if there is one.
+use Rattle.ilbm_content.proofs.Laws.{own-counts, shared-counts, nothing-counts, shared-marked}
 use borrow.Author.Needs.{needs}
 use Rattle.ilbm_content.proofs.property.Statement.{statement}
 use Rattle.ilbm_content.proofs.property.Tie as tie
+use Rattle.ilbm_content.proofs.property.Reads as reads
+use Rattle.ilbm_content.proofs.property.Lts as lts
+use Rattle.ilbm_content.proofs.part_at.Reads as part-at-reads
 
-last-named-requires : tie.Need-last-named-requires
-last-named-requires c κs = search (until-row, needs)
+-- src/lib.rt:55:19
+part-at-requires : tie.Need-part-at-requires
+part-at-requires c κs = search needs
 
-enum-told : tie.Need-enum-told
-enum-told c = search needs
-
-shared-property-requires : tie.Need-shared-property-requires
-shared-property-requires c κs = search needs
-
-enum-known-own : tie.Need-enum-known-own
-enum-known-own c = search needs
-
+-- src/lib.rt:54:9
 returns : tie.Need-returns
-returns c = search (counts-shared, needs)
+returns c = search (own-counts, needs)
 
+-- src/lib.rt:61:19
+part-at-requires-2 : tie.Need-part-at-requires-2
+part-at-requires-2 c κs = search (shared-marked, needs)
+
+-- src/lib.rt:60:9
 returns-2 : tie.Need-returns-2
-returns-2 c = search (counts-own, needs)
+returns-2 c = search (shared-counts, needs)
+
+-- src/lib.rt:49:1
+returns-3 : tie.Need-returns-3
+returns-3 c = search (nothing-counts, needs)
 
 pub property-spec : {M : Type 1} → statement M
 property-spec =
-    tie.close
-    (tie.spec
-    last-named-requires
-    enum-told
-    shared-property-requires
-    enum-known-own
-    returns
-    returns-2)
+    tie.close (tie.spec part-at-requires returns part-at-requires-2 returns-2 returns-3)

@@ -1,5 +1,5 @@
 -- The members of the FORM are a row, whose content is judged; it is seen if the judgement is 0.
-use Rattle.ilbm_find.proofs.ViewLaws.{form-row, form-scoped, form-full, form-seen, form-unseen}
+use Rattle.ilbm_find.proofs.ViewLaws.{form-row, form-scoped, form-full, form-seen, form-refused}
 use borrow.Author.Needs.{needs}
 use Rattle.ilbm_find.proofs.view_form.Statement.{statement}
 use Rattle.ilbm_find.proofs.view_form.Tie as tie
@@ -16,20 +16,17 @@ size-at-requires c κs = search needs
 add-end-2 : tie.Need-add-end-2
 add-end-2 c = search needs
 
-add-content-at : tie.Need-add-content-at
-add-content-at c = search needs
-
 content-at-requires : tie.Need-content-at-requires
 content-at-requires c κs = search (form-row, form-scoped, needs)
 
-refusal-requires : tie.Need-refusal-requires
-refusal-requires c κs = search (form-full, needs)
+judge-requires : tie.Need-judge-requires
+judge-requires c κs = search (form-full, needs)
 
 returns : tie.Need-returns
 returns c = search (form-seen, needs)
 
 returns-2 : tie.Need-returns-2
-returns-2 c = search (form-unseen, needs)
+returns-2 c = search (form-refused, needs)
 
 pub view-form-spec : {M : Type 1} → statement M
 view-form-spec =
@@ -39,8 +36,7 @@ view-form-spec =
     add-size-at
     size-at-requires
     add-end-2
-    add-content-at
     content-at-requires
-    refusal-requires
+    judge-requires
     returns
     returns-2)

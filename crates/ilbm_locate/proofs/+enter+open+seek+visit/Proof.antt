@@ -20,13 +20,13 @@ use Rattle.ilbm_locate.proofs.+enter+open+seek+visit.Lts-seek as seek-l
 use Rattle.ilbm_locate.proofs.visit.Reads as visit
 use Rattle.ilbm_locate.proofs.visit.Kinds as visit-kinds
 use Rattle.ilbm_locate.proofs.+enter+open+seek+visit.Lts-visit as visit-lts
-use Rattle.ilbm_locate.proofs.group_is.Reads as group-is-reads
 use Rattle.ilbm_locate.proofs.inner_scope.Reads as inner-scope-reads
 use Rattle.ilbm_members.proofs.sibling_at.Reads as sibling-at-reads
 use Rattle.iff_name.proofs.Name.kind.Reads as kind-reads
 use Rattle.iff_rules.proofs.is_group.Reads as is-group-reads
 use Rattle.iff_chunk.proofs.name_at.Reads as name-at-reads
 use Rattle.iff_chunk.proofs.size_at.Reads as size-at-reads
+use Rattle.ilbm_names.proofs.is_picture.Reads as is-picture-reads
 use Rattle.ilbm_locate.proofs.+enter+open+seek+visit.{statement}
 use Rattle.ilbm_locate.proofs.+enter+open+seek+visit.Tie.{close}
 
@@ -70,7 +70,7 @@ abbrev enter-calls : ℕ → enter-lts.Claims
 enter-calls t = (size-at-reads.Asked, size-at-reads.Learnt, inner-scope-reads.Asked, inner-scope-reads.Learnt, seek-below t, seek.Post)
 
 abbrev open-calls : ℕ → open-lts.Claims
-open-calls t = (group-is-reads.Asked, group-is-reads.Learnt, enter-below t, enter.Post)
+open-calls t = (name-at-reads.Asked, name-at-reads.Learnt, is-picture-reads.Asked, is-picture-reads.Learnt, enter-below t, enter.Post)
 
 abbrev seek-calls : ℕ → seek-lts.Claims
 seek-calls t = (visit-below t, visit.Post, sibling-at-reads.Asked, sibling-at-reads.Learnt)
@@ -102,8 +102,17 @@ enter-seek-requires t c κs = search (group-laws, visit-laws, needs)
 enter-returns : (t : ℕ) → enter-lts.Need-returns (enter-calls t) (enter-at t) enter.Post
 enter-returns t c = search (group-laws, visit-laws, needs)
 
-open-group-is-requires : (t : ℕ) → open-lts.Need-group-is-requires (open-calls t) (open-at t) open.Post
-open-group-is-requires t c κs = search (group-laws, visit-laws, needs)
+open-name-at-requires : (t : ℕ) → open-lts.Need-name-at-requires (open-calls t) (open-at t) open.Post
+open-name-at-requires t c κs = search (group-laws, visit-laws, needs)
+
+open-add-name-at : (t : ℕ) → open-lts.Need-add-name-at (open-calls t) (open-at t) open.Post
+open-add-name-at t c = search (group-laws, visit-laws, needs)
+
+open-name-at-requires-2 : (t : ℕ) → open-lts.Need-name-at-requires-2 (open-calls t) (open-at t) open.Post
+open-name-at-requires-2 t c κs = search (group-laws, visit-laws, needs)
+
+open-is-picture-requires : (t : ℕ) → open-lts.Need-is-picture-requires (open-calls t) (open-at t) open.Post
+open-is-picture-requires t c κs = search (group-laws, visit-laws, needs)
 
 open-returns : (t : ℕ) → open-lts.Need-returns (open-calls t) (open-at t) open.Post
 open-returns t c = search (group-laws, visit-laws, needs)
@@ -124,10 +133,10 @@ open-returns-3 : (t : ℕ) → open-lts.Need-returns-3 (open-calls t) (open-at t
 open-returns-3 t c = search (group-laws, visit-laws, needs)
 
 abbrev seek-Inv-loop : seek-lts.InvT-loop
-seek-Inv-loop s p e prop k q₀ left₀ q left = (p ≤ q) × (q ≤ e) × Row s q e × Passing s p e prop k q left
+seek-Inv-loop s p e scope k q₀ left₀ q left = (p ≤ q) × (q ≤ e) × Row s q e × Passing s p e scope k q left
 
 abbrev seek-μ-loop : seek-lts.MeasureT-loop
-seek-μ-loop s p e prop k q₀ left₀ q left = e - q
+seek-μ-loop s p e scope k q₀ left₀ q left = e - q
 
 seek-loop-holds : (t : ℕ) → seek-lts.Need-loop-holds (seek-calls t) (seek-at t) seek.Post seek-Inv-loop seek-μ-loop
 seek-loop-holds t c = search (seek-laws, needs)
@@ -190,22 +199,21 @@ pub +enter+open+seek+visit-spec : {M : Type 1} → statement M
     (enter-seek-requires t)
     (enter-returns t))
     (λ t. open-lts.spec
-    (group-is-reads.Asked, group-is-reads.Learnt, enter-below t, enter.Post)
+    (open-calls t)
     (open-at t)
     open.Post
-    (open-group-is-requires t)
+    (open-name-at-requires t)
+    (open-add-name-at t)
+    (open-name-at-requires-2 t)
+    (open-is-picture-requires t)
     (open-returns t)
     (open-sub-enter t)
     (open-enter-requires t)
     (open-returns-2 t)
     (open-enter-requires-2 t)
     (open-returns-3 t))
-    (λ t. seek-lts.spec (
-      visit-below t,
-      visit.Post,
-      sibling-at-reads.Asked,
-      sibling-at-reads.Learnt,
-    )
+    (λ t. seek-lts.spec
+    (seek-calls t)
     (seek-at t)
     seek.Post
     seek-Inv-loop
@@ -219,16 +227,8 @@ pub +enter+open+seek+visit-spec : {M : Type 1} → statement M
     (seek-loop-less t)
     (seek-loop-again t)
     (seek-returns-2 t))
-    λ t. visit-lts.spec (
-      name-at-reads.Asked,
-      name-at-reads.Learnt,
-      kind-reads.Asked,
-      kind-reads.Learnt,
-      is-group-reads.Asked,
-      is-group-reads.Learnt,
-      open-below t,
-      open.Post,
-    )
+    λ t. visit-lts.spec
+    (visit-calls t)
     (visit-at t)
     visit.Post
     (visit-name-at-requires t)

@@ -1,0 +1,54 @@
+-- What the PROPs around a picture share, as places in a sound file.
+use Prim.Native.Nat.{ℕ, _+_}
+use mathlib.Core.Path.{_≡_}
+use mathlib.Core.List.{List}
+use mathlib.Core.Option.{some}
+use Rattle.iff_chunk.specs.Chunks.{Chunks, group, word}
+use Rattle.ilbm_spec.specs.Names.{BMHD, CMAP, GRAB, DEST, SPRT, CAMG}
+use Rattle.ilbm_spec.specs.Contents.{Property, own, shared, absent, Scope as Shares, propScope, listScope, scopeInside}
+use Rattle.ilbm_members.specs.Members.{Holds, Marks}
+use Rattle.ilbm_locate.specs.declared.Shared.{Shared}
+use Rattle.ilbm_locate.specs.declared.Scope.{Scope}
+
+-- the places are those of this shared property
+abbrev pub SharedIs : List ℕ → Shared → Property → Type 0
+SharedIs s h (own x) = ⊥
+SharedIs s h (shared p x) = (h .prop ≡ p) × Marks s (h .place) (some x)
+SharedIs s h absent = h .place ≡ 0
+
+pub record ScopeIs (s : List ℕ) (c : Scope) (scope : Shares) : Type 0 where
+  pub bmhd : SharedIs s (c .bmhd) (scope BMHD)
+  pub cmap : SharedIs s (c .cmap) (scope CMAP)
+  pub grab : SharedIs s (c .grab) (scope GRAB)
+  pub dest : SharedIs s (c .dest) (scope DEST)
+  pub sprt : SharedIs s (c .sprt) (scope SPRT)
+  pub camg : SharedIs s (c .camg) (scope CAMG)
+
+-- some scope is told by these places
+abbrev pub Scoped : List ℕ → Scope → Type 0
+Scoped s c = (scope : Shares) × ScopeIs s c scope
+
+abbrev pub noneShared : Scope
+noneShared =
+    record {
+      bmhd = record { prop = 0; place = 0 };
+      cmap = record { prop = 0; place = 0 };
+      grab = record { prop = 0; place = 0 };
+      dest = record { prop = 0; place = 0 };
+      sprt = record { prop = 0; place = 0 };
+      camg = record { prop = 0; place = 0 };
+    }
+
+-- what the PROP at q gives
+pub record PropGives (s : List ℕ) (q : ℕ) (r : Scope) : Type 0 where
+  pub at : (G : Chunks) (R : List ℕ) → Holds s (q + 12) (q + 8 + word s (q + 4)) G R → ScopeIs s r (propScope q G)
+
+-- r tells the scope of a LIST's members, where c tells the scope around it
+pub record ListGives (s : List ℕ) (p e : ℕ) (c r : Scope) : Type 0 where
+  pub at : (F : Chunks) (R : List ℕ) (scope : Shares) → Holds s p e F R → ScopeIs s c scope → ScopeIs s r (listScope p F scope)
+
+-- r tells the scope inside the group at q
+pub record GivesInside (s : List ℕ) (q e : ℕ) (c r : Scope) : Type 0 where
+  pub at :
+      (n t : ℕ) (G F : Chunks) (R : List ℕ) (scope : Shares) → Holds s q e (group n t G F) R → ScopeIs s c scope →
+      ScopeIs s r (scopeInside n q G scope)
