@@ -1,11 +1,8 @@
 -- The numbers told of a picture's palette; "any other number told beside it is 0".
-use Prim.Native.Nat.{ℕ, _+_}
+use Prim.Native.Nat.{ℕ}
 use mathlib.Core.List.{List}
-use lib.ListN.{length}
-use Rattle.ilbm_spec.specs.Names.{CMAP}
-use Rattle.ilbm_spec.specs.Places.{placeOf}
-use Rattle.ilbm_spec.specs.Pictures.{Viewed, viewOf, dataOf, originOf}
-use Rattle.ilbm_members.specs.Members.{fromOf}
+use Rattle.ilbm_spec.specs.Pictures.{Viewed, viewOf, originOf}
+use Rattle.ilbm_spec.specs.Palette.{extentFrom}
 use Rattle.ilbm_content.specs.declared.Part.{Part}
 use Rattle.ilbm_content.specs.declared.Part.the-variants.{Nothing, Between}
 use Rattle.ilbm_find.specs.declared.View.{View}
@@ -16,28 +13,32 @@ use Rattle.export_palette.specs.declared.PaletteParts.{PaletteParts}
 
 -- The CMAP that counts: its origin, and where its data lies, "handed back as a part of the slice it came from"; 0 and 0 where none
 -- counts, and after a refusal.
-unfoldable pub paletteNumbers : Viewed → ℕ → PaletteParts
-paletteNumbers (found c) start =
+unfoldable pub paletteNumbers : Viewed → PaletteParts
+paletteNumbers (found c) =
     record {
       number = 0;
       place = 0;
       origin = originNumber (originOf (c .cmap));
       shared = sharedPlace (originOf (c .cmap));
-      from = start;
-      to = start + length (dataOf (c .cmap));
+      from = extentFrom (c .cmap) .from;
+      to = extentFrom (c .cmap) .to;
     }
-paletteNumbers (refused k p) start = record { number = k; place = p; origin = 0; shared = 0; from = 0; to = 0 }
+paletteNumbers (refused k p) = record { number = k; place = p; origin = 0; shared = 0; from = 0; to = 0 }
 
-abbrev pub paletteExtent : List ℕ → ℕ → PaletteParts
-paletteExtent s i = paletteNumbers (viewOf s i) (placeOf s i CMAP)
+abbrev pub paletteCall : List ℕ → ℕ → PaletteParts
+paletteCall s i = paletteNumbers (viewOf s i)
 
 -- the same of the parts that a view gives
+abbrev pub fromOf : Part → ℕ
+fromOf Nothing = 0
+fromOf (Between a b) = a
+
 abbrev pub toOf : Part → ℕ
 toOf Nothing = 0
 toOf (Between a b) = b
 
 unfoldable pub paletteParts : View → PaletteParts
-paletteParts (Seen c) =
+paletteParts (Seen c b) =
     record {
       number = 0;
       place = 0;

@@ -8,9 +8,8 @@ use ilbm_find::view_picture;
 ghost use mathlib.Core.Path.{_≡_};
 ghost use mathlib.Core.List.{[]};
 ghost use lib.Seq.{slice};
-ghost use Rattle.ilbm_spec.specs.Pictures.{paletteOf};
-ghost use Rattle.ilbm_members.specs.Members.{fromOf};
-ghost use Rattle.export_palette.specs.Palette.{toOf, paletteParts, paletteExtent};
+ghost use Rattle.ilbm_spec.specs.Palette.{paletteAnswer};
+ghost use Rattle.export_palette.specs.Palette.{fromOf, toOf, paletteParts, paletteCall};
 
 fn part_from(part: Part) -> usize
     ensures { λ r. ⌜ r ≡ fromOf part ⌝ }
@@ -44,7 +43,7 @@ fn palette_parts(v: View) -> PaletteParts
     ensures { λ r. ⌜ r ≡ paletteParts v ⌝ }
 {
     match v {
-        View::Seen(c) => {
+        View::Seen(c, _) => {
             let cmap = c.cmap;
             let part = cmap.part;
             let o = cmap.origin;
@@ -86,8 +85,8 @@ pub extern "C" fn ilbm_palette(
       shared = now (shared .exit);
       from = now (from .exit);
       to = now (to .exit);
-    } ≡ paletteExtent (now (file .entry)) number ⌝ }
-    ensures part { λ _. ⌜ slice (now (from .exit)) (now (to .exit)) (now (file .entry)) ≡ paletteOf (now (file .entry)) number [] ⌝ }
+    } ≡ paletteCall (now (file .entry)) number ⌝ }
+    ensures part { λ _. ⌜ slice (now (from .exit)) (now (to .exit)) (now (file .entry)) ≡ paletteAnswer (now (file .entry)) number [] .colours ⌝ }
 {
     let numbers = palette_parts(view_picture(file, number));
     *place = numbers.place;

@@ -25,7 +25,7 @@ partAt file (Between a b) default = (file .0, a + file .1)
 
 -- the answer of the palette call, its colours as a part
 pub record ColoursAre (s : List ℕ) (i : ℕ) (c : Colours) : Type 0 where
-  pub told :
+  pub answer :
       (default : List ℕ) →
       _≡_ {A = Answer} (record { number = c .number; place = c .place; colours = partOr s (c .part) default }) (paletteAnswer s i default)
   pub lies : (file default : ℕ × ℕ) → partAt file (c .part) default ≡ pointer (paletteSource s i) file default

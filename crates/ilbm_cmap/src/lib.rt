@@ -26,7 +26,7 @@ pub fn colours_of(s: &[u8], i: usize) -> Colours
 {
     let v = view_picture(s, i);
     match v {
-        View::Seen(c) => {
+        View::Seen(c, _) => {
             let cmap = c.cmap;
             let part = cmap.part;
             Colours {

@@ -7,9 +7,9 @@ use lib.Dec.{eqb}
 use lib.ListN.{length, length-append}
 use mir.Syntax.{w64}
 use mir.Val.{Fits}
-use borrow.Author.Tests.{eq-eqb, ne-eqb}
+use borrow.Author.Tests.{ne-eqb}
 use native.Mathlib.Omega.{arith}
-use Rattle.iff_name.specs.Name.{both, pick, kindOf}
+use Rattle.iff_name.specs.Name.{pick, kindOf}
 use Rattle.iff_name.specs.declared.Kind.{Kind}
 use Rattle.iff_chunk.specs.Chunks.{Chunks, none, leaf, group, Chunk, before, word}
 use Rattle.iff_rules.specs.Rules.{isGroup}
@@ -20,8 +20,8 @@ use Rattle.iff_walk.specs.Order.{join, later, following}
 use Rattle.iff_walk.specs.Coming.{Coming, Sound}
 use Rattle.iff_walk.specs.laws.Coming.{coming-none, coming-room, coming-later, coming-further, leaf-here, group-here}
 use Rattle.iff_name.specs.Codes.{FORM}
-use Rattle.ilbm_spec.specs.Names.{ILBM, isPicture}
-use Rattle.ilbm_spec.specs.Contents.{SharedProp, contentsFrom, contentsOf}
+use Rattle.ilbm_spec.specs.Names.{isPicture}
+use Rattle.ilbm_spec.specs.Contents.{Scope, noScope, contentsFrom, contentsOf}
 use Rattle.ilbm_count.specs.declared.Counted.the-variants.{Pictures, Refused}
 use Rattle.ilbm_count.specs.Count.{countIn, countOf, formAt, Standing}
 
@@ -35,7 +35,7 @@ one-or-none : {A : Type 0} (b : Bool) (x : A) (rest : List A) → length (pick b
 one-or-none true x rest = omega arith
 one-or-none false x rest = omega arith
 
-contents-forms : (p : ℕ) (scope : List SharedProp) (F : Chunks) → length (contentsFrom p scope F) ≡ forms F
+contents-forms : (p : ℕ) (scope : Scope) (F : Chunks) → length (contentsFrom p scope F) ≡ forms F
 unfolding contentsFrom forms
 contents-forms p scope none = refl
 contents-forms p scope (leaf n d pd F) = contents-forms _ scope F
@@ -103,7 +103,7 @@ counting-fits s e p n v k w l a h = omega (arith, at-most-one s p, w .stand .roo
 
 pub counting-start : (s : List ℕ) (e : ℕ) (f : Sound s e) → Counting s e 0 0 (length (contentsOf (f .chunk)))
 counting-start s e f =
-    record { coming = before (f .chunk) none; stand = f .start; sum = omega (arith, contents-forms 0 [] (before (f .chunk) none)) }
+    record { coming = before (f .chunk) none; stand = f .start; sum = omega (arith, contents-forms 0 noScope (before (f .chunk) none)) }
 
 pub counting-end : (s : List ℕ) (e p n : ℕ) (f : Sound s e) → e ≤ p → Counting s e p n (length (contentsOf (f .chunk))) → Pictures n ≡ countOf s
 unfolding forms
@@ -125,8 +125,8 @@ module _ (s : List ℕ) (p e : ℕ) (t : Standing s p e) (l : p < e) where
       let a = group-here s p e (t .0) (t .1) l g in
       omega (arith, a .inside .ends, a .inside .room)
 
-  pub type-room : (n : ℕ) → n ≡ word s p → n ≡ FORM → p + 8 + 4 ≤ length s
-  type-room n i j = omega (arith, group-inside (rw (← i, j) form-group))
+  pub type-room : (n : ℕ) (k : Kind) (b : Bool) → n ≡ word s p → k ≡ kindOf n → b ≡ isGroup k → b ≡ true → p + 8 + 4 ≤ length s
+  type-room n k b i j y g = omega (arith, group-inside (rw (← i, ← j, ← y) g))
 
   pub following-group : (n : ℕ) (k : Kind) (b : Bool) → n ≡ word s p → k ≡ kindOf n → b ≡ isGroup k → b ≡ true → p + 12 ≡ following s p
   following-group n k b i j y g = rw (← i, ← j, ← y, g)
@@ -136,14 +136,15 @@ module _ (s : List ℕ) (p e : ℕ) (t : Standing s p e) (l : p < e) where
       p + 8 + (z + 1) / 2 * 2 ≡ following s p
   following-leaf n z k b i j y g x = rw (← i, ← j, ← y, g, ← x) (omega arith)
 
-pub form-hit : (s : List ℕ) (p n t : ℕ) → n ≡ word s p → n ≡ FORM → t ≡ word s (p + 8) → t ≡ ILBM → 1 ≡ formAt s p
-form-hit s p n t i j x y = rw (← i, ← x, eq-eqb _ _ j, eq-eqb _ _ y)
+module _ (s : List ℕ) (p n : ℕ) (i : n ≡ word s p) where
+  pub form-hit : (t : ℕ) (b : Bool) → t ≡ word s (p + 8) → b ≡ isPicture n t → b ≡ true → 1 ≡ formAt s p
+  form-hit t b x y g = rw (← i, ← x, ← y, g)
 
-pub form-other : (s : List ℕ) (p n t : ℕ) → n ≡ word s p → n ≡ FORM → t ≡ word s (p + 8) → (t ≡ ILBM → ⊥) → 0 ≡ formAt s p
-form-other s p n t i j x y = rw (← i, ← x, eq-eqb _ _ j, ne-eqb _ _ y)
+  pub form-other : (t : ℕ) (b : Bool) → t ≡ word s (p + 8) → b ≡ isPicture n t → b ≡ false → 0 ≡ formAt s p
+  form-other t b x y g = rw (← i, ← x, ← y, g)
 
-pub form-none : (s : List ℕ) (p n : ℕ) → n ≡ word s p → (n ≡ FORM → ⊥) → 0 ≡ formAt s p
-form-none s p n i j = rw (← i, ne-eqb _ _ j)
+  pub form-none : (k : Kind) (b : Bool) → k ≡ kindOf n → b ≡ isGroup k → b ≡ false → 0 ≡ formAt s p
+  form-none k b j y g = sym (no-form s p (rw (← i, ← j, ← y) g))
 
 refused-count : (s : List ℕ) (f : Found Chunk) (k p : ℕ) → Verdict-refused k p ≡ verdictOf s f → Refused k p ≡ countIn f
 refused-count s (found c) k p e = absurd (let z : _≡_ {A = ℕ} 0 1 = cc in omega arith)

@@ -1,10 +1,10 @@
 // Counts the pictures of a file, by one pass over its chunks in file order.
 use iff_chunk::name_at;
 use iff_chunk::size_at;
-use iff_name::Name;
 use iff_rules::is_group;
 use iff_tree::Verdict;
 use iff_tree::check;
+use ilbm_names::is_picture;
 ghost use mathlib.Core.Path.{_≡_};
 ghost use Prim.Native.Nat.{_+_, _<_};
 ghost use Rattle.iff_walk.specs.Order.{following};
@@ -12,21 +12,20 @@ ghost use Rattle.iff_walk.specs.Coming.{Sound};
 ghost use Rattle.ilbm_count.specs.Count.{countOf, formAt, Standing};
 ghost use Rattle.ilbm_count.specs.declared.Counted.the-variants.{Pictures};
 
-const ILBM: u32 = 0x494C424D;
-
 // How many pictures there are, or the number and place of a refusal.
 pub enum Counted {
     Pictures(usize),
     Refused { number: usize, place: usize },
 }
 
-// 1 if the chunk at p is a FORM ILBM, else 0.
+// 1 if the chunk at p is a picture, else 0.
 fn form_at(s: &[u8], p: usize, end: usize) -> usize
     requires { ⌜ (Standing (now s) p end) × (p < end) ⌝ }
     ensures { λ r. ⌜ r ≡ formAt (now (s .entry)) p ⌝ }
 {
-    if name_at(s, p).code == Name::FORM.code {
-        if name_at(s, p + 8).code == ILBM {
+    let n = name_at(s, p);
+    if is_group(n.kind()) {
+        if is_picture(n, name_at(s, p + 8)) {
             return 1;
         }
     }

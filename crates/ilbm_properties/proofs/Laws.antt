@@ -27,7 +27,7 @@ use Rattle.ilbm_find.specs.Seen.{ViewIs}
 use Rattle.ilbm_refusals.proofs.Laws.{held-some, held-none}
 use Rattle.ilbm_refusals.proofs.RefusalLaws.{held-data, data-taken}
 use Rattle.iff_tree.specs.Judge.{refused}
-use Rattle.ilbm_properties.specs.Fields.{OfSize, Judged, HeaderIs, GrabIs, DestinationIs, WordIs, LongIs, PictureIs}
+use Rattle.ilbm_properties.specs.Fields.{OfSize, Judged, GrabIs, DestinationIs, WordIs, LongIs, PictureIs}
 
 not-false : (b : Bool) → not b ≡ false → b ≡ true
 not-false true e = refl
@@ -56,9 +56,6 @@ pub ruleset size-laws = (size-order, size-inside, size-room, size-room-0)
 
 -- what is read of it
 module _ (s : List ℕ) (h : Held) (a b : ℕ) (i : h .part ≡ Between a b) where
-  pub header-some : (r : BitmapHeader) → r ≡ headerIn (take (b - a) (drop a s)) → HeaderIs s h r
-  header-some r e = record { at = λ q k. e ∙ ap headerIn (data-taken s h q a b k i) }
-
   pub grab-some : (r : HotSpot) → r ≡ hotSpotIn (take (b - a) (drop a s)) → GrabIs s h r
   grab-some r e = record { at = λ q k. e ∙ ap hotSpotIn (data-taken s h q a b k i) }
 
@@ -79,26 +76,6 @@ no-data absent e = refl
 module _ (s : List ℕ) (h : Held) (i : h .part ≡ Nothing) where
   nothing-in : (q : Property) → HeldIs s h q → dataOf q ≡ []
   nothing-in q k = no-data q (held-none s h q k i)
-
-  pub header-none :
-      HeaderIs s h
-      (record {
-        w = 0;
-        h = 0;
-        x = pos 0;
-        y = pos 0;
-        planes = 0;
-        masking = 0;
-        compression = 0;
-        pad1 = 0;
-        transparent = 0;
-        «x_aspect» = 0;
-        «y_aspect» = 0;
-        «page_width» = pos 0;
-        «page_height» = pos 0;
-      })
-  unfolding headerIn
-  header-none = record { at = λ q k. rw (nothing-in q k) }
 
   pub grab-none : GrabIs s h (record { x = pos 0; y = pos 0 })
   unfolding hotSpotIn
@@ -139,7 +116,7 @@ sizes-right x e = go (counts (x .bmhd)) (ltb 1 (length (x .bodies))) (wrongSize 
     go true false false e = refl
     go false b w e = absurd (omega arith)
 
-module _ (s : List ℕ) (c : Contents) (j : Judged s c) where
+module _ (s : List ℕ) (c : Contents) (b : BitmapHeader) (j : Judged s c b) where
   all :
       (sizeNot 20 (j .0 .bmhd) ≡ false) × (sizeNot 4 (j .0 .grab) ≡ false) × (sizeNot 8 (j .0 .dest) ≡ false) × (sizeNot 2 (j .0 .sprt) ≡ false) ×
       (sizeNot 4 (j .0 .camg) ≡ false)
@@ -147,22 +124,19 @@ module _ (s : List ℕ) (c : Contents) (j : Judged s c) where
   all =
       none-of (sizeNot 20 (j .0 .bmhd)) (sizeNotTriples (j .0 .cmap)) (sizeNot 4 (j .0 .grab)) (sizeNot 8 (j .0 .dest)) (sizeNot 2 (j .0 .sprt))
       (sizeNot 4 (j .0 .camg))
-      (sizes-right (j .0) (j .2))
-
-  pub bmhd-right : OfSize s (c .bmhd) 20
-  bmhd-right = (j .0 .bmhd, j .1 .bmhd, all .0)
+      (sizes-right (j .0) (j .1 .sound))
 
   pub grab-right : OfSize s (c .grab) 4
-  grab-right = (j .0 .grab, j .1 .grab, all .1)
+  grab-right = (j .0 .grab, j .1 .parts .grab, all .1)
 
   pub dest-right : OfSize s (c .dest) 8
-  dest-right = (j .0 .dest, j .1 .dest, all .2)
+  dest-right = (j .0 .dest, j .1 .parts .dest, all .2)
 
   pub sprt-right : OfSize s (c .sprt) 2
-  sprt-right = (j .0 .sprt, j .1 .sprt, all .3)
+  sprt-right = (j .0 .sprt, j .1 .parts .sprt, all .3)
 
   pub camg-right : OfSize s (c .camg) 4
-  camg-right = (j .0 .camg, j .1 .camg, all .4)
+  camg-right = (j .0 .camg, j .1 .parts .camg, all .4)
 
 origin-is : (s : List ℕ) (h : Held) (q : Property) → HeldIs s h q → h .origin ≡ originOf q
 origin-is s h (own d) k = k .0
@@ -171,8 +145,8 @@ origin-is s h absent k = k .0
 
 pub picture-told :
     (s : List ℕ) (c : Contents) (b : BitmapHeader) (g : HotSpot) (d : Destination) (w m : ℕ) →
-    HeaderIs s (c .bmhd) b → GrabIs s (c .grab) g → DestinationIs s (c .dest) d → WordIs s (c .sprt) w → LongIs s (c .camg) m →
-    PictureIs s c
+    GrabIs s (c .grab) g → DestinationIs s (c .dest) d → WordIs s (c .sprt) w → LongIs s (c .camg) m →
+    PictureIs s c b
     (record {
       header = b;
       «header_from» = c .bmhd .origin;
@@ -187,10 +161,11 @@ pub picture-told :
       «view_mode_from» = c .camg .origin;
     })
 unfolding pictureFrom
-picture-told s c b g d w m B G D W M =
+picture-told s c b g d w m G D W M =
     record {
-      at = λ x k.
-          let e1 = B .at (x .bmhd) (k .bmhd) in
+      at = λ x y.
+          let k = y .parts in
+          let e1 = y .header in
           let e2 = G .at (x .grab) (k .grab) in
           let e3 = D .at (x .dest) (k .dest) in
           let e4 = W .at (x .sprt) (k .sprt) in
@@ -206,11 +181,11 @@ picture-told s c b g d w m B G D W M =
 
 -- from the view to the answers
 module _ (s : List ℕ) (i : ℕ) (v : View) (w : ViewIs s v (viewOf s i)) where
-  pub seen-judged : (c : Contents) → v ≡ Seen c → Judged s c
-  seen-judged c j = let x : ViewIs s (Seen c) (viewOf s i) = rw j at w in (x .0, x .2, x .3)
+  pub seen-judged : (c : Contents) (b : BitmapHeader) → v ≡ Seen c b → Judged s c b
+  seen-judged c b j = let x : ViewIs s (Seen c b) (viewOf s i) = rw j at w in (x .0, x .2)
 
-  pub picture-seen : (c : Contents) (r : Picture) → v ≡ Seen c → PictureIs s c r → Shown r ≡ pictureOf s i
-  picture-seen c r j k = let x : ViewIs s (Seen c) (viewOf s i) = rw j at w in rw (x .1) (ap Shown (k .at (x .0) (x .2)))
+  pub picture-seen : (c : Contents) (b : BitmapHeader) (r : Picture) → v ≡ Seen c b → PictureIs s c b r → Shown r ≡ pictureOf s i
+  picture-seen c b r j k = let x : ViewIs s (Seen c b) (viewOf s i) = rw j at w in rw (x .1) (ap Shown (k .at (x .0) (x .2)))
 
-  pub picture-unseen : (k p : ℕ) → v ≡ View-refused k p → Refused k p ≡ pictureOf s i
-  picture-unseen k p j = let x : viewOf s i ≡ refused k p = rw j at w in rw x
+  pub picture-refused : (k p : ℕ) → v ≡ View-refused k p → Refused k p ≡ pictureOf s i
+  picture-refused k p j = let x : viewOf s i ≡ refused k p = rw j at w in rw x

@@ -9,21 +9,19 @@ use Rattle.ilbm_spec.specs.declared.Destination.{Destination}
 use Rattle.ilbm_spec.specs.declared.BitmapHeader.{BitmapHeader}
 use Rattle.ilbm_spec.specs.declared.Picture.{Picture}
 use Rattle.ilbm_spec.specs.Contents.{Property, Content}
-use Rattle.ilbm_spec.specs.Pictures.{u16, headerIn, hotSpotIn, destinationIn, dataOf, sizeNot, pictureRefusal, pictureFrom}
+use Rattle.ilbm_spec.specs.Pictures.{u16, hotSpotIn, destinationIn, dataOf, sizeNot, pictureFrom}
 use Rattle.ilbm_content.specs.declared.Held.{Held}
 use Rattle.ilbm_content.specs.declared.Contents.{Contents}
-use Rattle.ilbm_content.specs.Held.{HeldIs, ContentsAre}
+use Rattle.ilbm_content.specs.Held.{HeldIs}
+use Rattle.ilbm_find.specs.Seen.{Shown}
 
 -- the part holds a property that is absent or has this size
 abbrev pub OfSize : List ℕ → Held → ℕ → Type 0
 OfSize s h n = (q : Property) × HeldIs s h q × (sizeNot n q ≡ false)
 
--- the parts hold the content of a picture that is not refused
-abbrev pub Judged : List ℕ → Contents → Type 0
-Judged s c = (x : Content) × ContentsAre s c x × (pictureRefusal x ≡ 0)
-
-pub record HeaderIs (s : List ℕ) (h : Held) (r : BitmapHeader) : Type 0 where
-  pub at : (q : Property) → HeldIs s h q → r ≡ headerIn (dataOf q)
+-- the parts and the header are those of some picture that is not refused
+abbrev pub Judged : List ℕ → Contents → BitmapHeader → Type 0
+Judged s c b = (x : Content) × Shown s c b x
 
 pub record GrabIs (s : List ℕ) (h : Held) (r : HotSpot) : Type 0 where
   pub at : (q : Property) → HeldIs s h q → r ≡ hotSpotIn (dataOf q)
@@ -37,5 +35,5 @@ pub record WordIs (s : List ℕ) (h : Held) (r : ℕ) : Type 0 where
 pub record LongIs (s : List ℕ) (h : Held) (r : ℕ) : Type 0 where
   pub at : (q : Property) → HeldIs s h q → r ≡ word (dataOf q) 0
 
-pub record PictureIs (s : List ℕ) (c : Contents) (r : Picture) : Type 0 where
-  pub at : (x : Content) → ContentsAre s c x → r ≡ pictureFrom x
+pub record PictureIs (s : List ℕ) (c : Contents) (b : BitmapHeader) (r : Picture) : Type 0 where
+  pub at : (x : Content) → Shown s c b x → r ≡ pictureFrom x

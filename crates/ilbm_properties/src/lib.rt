@@ -1,7 +1,6 @@
 // The picture call.
 use ilbm_content::Contents;
 use ilbm_content::Held;
-use ilbm_fields::bitmap_header;
 use ilbm_fields::dest_fields;
 use ilbm_fields::grab_fields;
 use ilbm_fields::long_at;
@@ -16,33 +15,7 @@ use ilbm_find::View;
 use ilbm_find::view_picture;
 ghost use mathlib.Core.Path.{_≡_};
 ghost use Rattle.ilbm_spec.specs.Pictures.{pictureOf};
-ghost use Rattle.ilbm_properties.specs.Fields.{OfSize, Judged, HeaderIs, GrabIs, DestinationIs, WordIs, LongIs, PictureIs};
-
-// The fields of BMHD, 0 if it is absent.
-pub fn header_of(s: &[u8], h: Held) -> BitmapHeader
-    requires { ⌜ OfSize (now s) h 20 ⌝ }
-    ensures { λ r. ⌜ HeaderIs (now (s .entry)) h r ⌝ }
-{
-    let part = h.part;
-    match part {
-        Part::Nothing => BitmapHeader {
-            w: 0,
-            h: 0,
-            x: 0,
-            y: 0,
-            planes: 0,
-            masking: 0,
-            compression: 0,
-            pad1: 0,
-            transparent: 0,
-            x_aspect: 0,
-            y_aspect: 0,
-            page_width: 0,
-            page_height: 0,
-        },
-        Part::Between(from, to) => bitmap_header(&s[from..to]),
-    }
-}
+ghost use Rattle.ilbm_properties.specs.Fields.{OfSize, Judged, GrabIs, DestinationIs, WordIs, LongIs, PictureIs};
 
 fn grab_of(s: &[u8], h: Held) -> HotSpot
     requires { ⌜ OfSize (now s) h 4 ⌝ }
@@ -94,9 +67,9 @@ fn long_of(s: &[u8], h: Held) -> u32
     }
 }
 
-fn picture_from(s: &[u8], c: Contents) -> Picture
-    requires { ⌜ Judged (now s) c ⌝ }
-    ensures { λ r. ⌜ PictureIs (now (s .entry)) c r ⌝ }
+fn picture_from(s: &[u8], c: Contents, header: BitmapHeader) -> Picture
+    requires { ⌜ Judged (now s) c header ⌝ }
+    ensures { λ r. ⌜ PictureIs (now (s .entry)) c header r ⌝ }
 {
     let bmhd = c.bmhd;
     let cmap = c.cmap;
@@ -111,7 +84,7 @@ fn picture_from(s: &[u8], c: Contents) -> Picture
     let sprite_from = sprt.origin;
     let view_mode_from = camg.origin;
     Picture {
-        header: header_of(s, bmhd),
+        header,
         header_from,
         palette_from,
         grab: grab_of(s, grab),
@@ -131,7 +104,7 @@ pub fn picture(s: &[u8], i: usize) -> PictureAnswer
 {
     let v = view_picture(s, i);
     match v {
-        View::Seen(c) => PictureAnswer::Shown(picture_from(s, c)),
+        View::Seen(c, header) => PictureAnswer::Shown(picture_from(s, c, header)),
         View::Refused(number, place) => PictureAnswer::Refused { number, place },
     }
 }

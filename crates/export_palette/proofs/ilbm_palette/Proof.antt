@@ -12,7 +12,7 @@ palette-parts-requires c κs = tt
 returns : tie.Need-returns
 returns c =
     let seen = c .before .view-picture .ensures in
-    (palette-numbers _ _ _ (seen .0) _ (c .palette-parts .ensures) (seen .1), palette-part _ _ _ (seen .0) _ (c .palette-parts .ensures))
+    (palette-numbers _ _ _ seen _ (c .palette-parts .ensures), palette-part _ _ _ seen _ (c .palette-parts .ensures))
 
 pub ilbm-palette-spec : {M : Type 1} → statement M
 ilbm-palette-spec = tie.close (tie.spec view-picture-requires palette-parts-requires returns)

@@ -1,6 +1,6 @@
 -- By the cases of the view: the part and the origin of its CMAP, or 0 beside a refusal.
 use borrow.Author.Needs.{needs}
-use Rattle.export_palette.proofs.PaletteLaws.{parts-seen, parts-unseen}
+use Rattle.export_palette.proofs.PaletteLaws.{parts-seen, parts-refused}
 use Rattle.export_palette.proofs.palette_parts.Statement.{statement}
 use Rattle.export_palette.proofs.palette_parts.Tie as tie
 
@@ -26,7 +26,7 @@ returns : tie.Need-returns
 returns c = search (parts-seen, needs)
 
 returns-2 : tie.Need-returns-2
-returns-2 c = search (parts-unseen, needs)
+returns-2 c = search (parts-refused, needs)
 
 pub palette-parts-spec : {M : Type 1} → statement M
 palette-parts-spec =

@@ -1,11 +1,8 @@
--- Each property has the size that the judgement asked for, so that its fields can be read; the origins are copied.
+-- Each property has the size that the judgement asked for, so that its fields can be read; the header and the origins are copied.
+use Rattle.ilbm_properties.proofs.Laws.{grab-right, dest-right, sprt-right, camg-right, picture-told}
 use borrow.Author.Needs.{needs}
-use Rattle.ilbm_properties.proofs.Laws.{bmhd-right, grab-right, dest-right, sprt-right, camg-right, picture-told}
 use Rattle.ilbm_properties.proofs.picture_from.Statement.{statement}
 use Rattle.ilbm_properties.proofs.picture_from.Tie as tie
-
-header-of-requires : tie.Need-header-of-requires
-header-of-requires c κs = search (bmhd-right, needs)
 
 grab-of-requires : tie.Need-grab-of-requires
 grab-of-requires c κs = search (grab-right, needs)
@@ -24,16 +21,9 @@ returns c =
     let word = c .before in
     let destination = word .before in
     let grab = destination .before in
-    picture-told _ _ _ _ _ _ _ (grab .before .header-of .ensures) (grab .grab-of .ensures) (destination .destination-of .ensures) (word .word-of .ensures)
-    (c .long-of .ensures)
+    picture-told _ _ _ _ _ _ _ (grab .grab-of .ensures) (destination .destination-of .ensures) (word .word-of .ensures) (c .long-of .ensures)
 
 pub picture-from-spec : {M : Type 1} → statement M
 picture-from-spec =
     tie.close
-    (tie.spec
-    header-of-requires
-    grab-of-requires
-    destination-of-requires
-    word-of-requires
-    long-of-requires
-    returns)
+    (tie.spec grab-of-requires destination-of-requires word-of-requires long-of-requires returns)
