@@ -9,6 +9,7 @@ use mir.Val.{Fits}
 use native.Mathlib.Nat.{zero-mul, suc-mul, add-mul, one-mul, mul-comm, mul-le-mul-left}
 use native.Mathlib.Omega.{arith}
 use Rattle.ilbm_spec.specs.Rows.{rowLength, Read, thenRead, rowRead, rowsFrom, coloursFrom, bytesAfter}
+use Rattle.ilbm_spec.specs.laws.Rows.{one-value, one-place}
 use Rattle.byterun_row.specs.ByteRun.{rowOf}
 use Rattle.ilbm_gather.proofs.Colours.{row-room}
 use Rattle.ilbm_plane_rows.specs.Scan.{scannedOf, IsRead, lineBy, linesBy}
@@ -153,8 +154,8 @@ module _ (compression w planes rows : ℕ) (body : List ℕ) (h : ℕ) where
               (v : Read (List ℕ)) → linesBy compression w planes rows body (h - (y + 1)) p ≡ v → thenRead v (λ rest r. found ((new ++ rest), r)) ≡ found ((d .left), (d .end)) →
               Drawn compression w planes rows body h (y + 1) p (take (y * w) frame ++ (new ++ tail))
           go (found (rest, r)) u f =
-              let x : d .left ≡ new ++ rest = cc in
-              let z : d .end ≡ r = cc in
+              let x : d .left ≡ new ++ rest = sym (one-value f) in
+              let z : d .end ≡ r = sym (one-place f) in
               record {
                 left = rest;
                 end = r;
@@ -165,9 +166,9 @@ module _ (compression w planes rows : ℕ) (body : List ℕ) (h : ℕ) where
 
     pub drawn-end : y ≤ h → h ≤ y → length frame ≡ w * h → linesBy compression w planes rows body h 0 ≡ found (frame, q)
     drawn-end a b l =
-        let none : read [] q ≡ found ((d .left), (d .end)) = rw (lines-none compression w planes rows body h y q b) at (d .to-come) in
-        let x : d .left ≡ [] = cc in
-        let z : d .end ≡ q = cc in
+        let none : _≡_ {A = Read (List ℕ)} (found ([], q)) (found (d .left, d .end)) = rw (lines-none compression w planes rows body h y q b) at (d .to-come) in
+        let x : d .left ≡ [] = sym (one-value none) in
+        let z : d .end ≡ q = sym (one-place none) in
         let e : y ≡ h = omega arith in
         let u : length frame ≤ y * w = rw e (omega (arith, mul-comm w h)) in
         let v : linesBy compression w planes rows body h 0 ≡ found ((take (y * w) frame ++ []), q) = rw (x, z) at (d .whole) in
