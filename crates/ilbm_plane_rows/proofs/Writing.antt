@@ -9,11 +9,10 @@ use mir.Val.{Fits}
 use native.Mathlib.Numerals.{add-one}
 use native.Mathlib.Omega.{arith}
 use Rattle.byterun_row.specs.ByteRun.{Row, filled, over, short, rowOf, IsFull}
-use Rattle.ilbm_spec.specs.Rows.{Read, thenRead, rowRead, rowsFrom}
+use Rattle.ilbm_spec.specs.Rows.{Read, thenRead, IsRead, rowRead, rowsFrom}
 use Rattle.ilbm_spec.specs.laws.Rows.{one-value, one-place}
 use Rattle.ilbm_gather.specs.Buffer.{rowsIn}
 use Rattle.ilbm_gather.proofs.Colours.{row-room}
-use Rattle.ilbm_plane_rows.specs.Scan.{IsRead}
 use Rattle.iff_tree.specs.Judge.{found, refused}
 use Rattle.ilbm_plane_rows.proofs.Judging.{onward, rows-once, rows-none}
 

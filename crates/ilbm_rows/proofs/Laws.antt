@@ -17,7 +17,7 @@ use Rattle.ilbm_find.specs.declared.View.the-variants.{Seen, Refused as View-re
 use Rattle.ilbm_find.specs.Seen.{ViewIs}
 use Rattle.ilbm_properties.specs.Fields.{Judged}
 use Rattle.iff_tree.specs.Judge.{refused}
-use Rattle.ilbm_body_rows.specs.Lines.{LineDone, FrameDone}
+use Rattle.ilbm_rows.specs.Lines.{LineDone, FrameDone}
 
 no-body : (s : List ℕ) (bodies : List (List ℕ)) → Shows s Nothing (firstOf bodies) → bodies ≡ []
 no-body s [] w = refl
