@@ -17,6 +17,7 @@ use Rattle.ilbm_spec.specs.declared.Picture.{Picture}
 use Rattle.ilbm_spec.specs.declared.PictureAnswer.the-variants.{Shown, Refused}
 use Rattle.ilbm_spec.specs.Contents.{Property, own, shared, absent, Content}
 use Rattle.ilbm_spec.specs.Pictures.{u16, headerIn, hotSpotIn, destinationIn, dataOf, originOf, counts, sizeNot, sizeNotTriples, wrongSize, headerRefusal, pictureRefusal, pictureFrom, viewOf, pictureOf}
+use Rattle.ilbm_spec.specs.laws.Pictures.{sizes-right}
 use Rattle.ilbm_content.specs.declared.Part.the-variants.{Nothing, Between}
 use Rattle.ilbm_content.specs.declared.Held.{Held}
 use Rattle.ilbm_content.specs.declared.Contents.{Contents}
@@ -105,16 +106,6 @@ none-of false false true d e f i = never i
 none-of false false false true e f i = never i
 none-of false false false false true f i = never i
 none-of false false false false false f i = (refl, refl, refl, refl, i)
-
-sizes-right : (x : Content) → pictureRefusal x ≡ 0 → wrongSize x ≡ false
-unfolding pictureRefusal
-sizes-right x e = go (counts (x .bmhd)) (ltb 1 (length (x .bodies))) (wrongSize x) e
-  where
-    go : (a b w : Bool) → pick (not a) 21 (pick b 22 (pick w 23 (headerRefusal (headerIn (dataOf (x .bmhd))) (ltb 0 (length (x .bodies)))))) ≡ 0 → w ≡ false
-    go true true w e = absurd (omega arith)
-    go true false true e = absurd (omega arith)
-    go true false false e = refl
-    go false b w e = absurd (omega arith)
 
 module _ (s : List ℕ) (c : Contents) (b : BitmapHeader) (j : Judged s c b) where
   all :

@@ -3,10 +3,12 @@ use Prim.Native.Nat.{ℕ}
 use mathlib.Core.Path.{_≡_, refl}
 use mathlib.Core.List.{List, [], _∷_}
 use lib.ListN.{length}
+use Rattle.ilbm_spec.specs.declared.BitmapHeader.{BitmapHeader}
 use Rattle.ilbm_spec.specs.declared.LineAnswer.{LineAnswer}
 use Rattle.ilbm_spec.specs.declared.LineAnswer.the-variants.{Refused}
 use Rattle.ilbm_spec.specs.declared.FrameAnswer.{FrameAnswer}
 use Rattle.ilbm_spec.specs.declared.FrameAnswer.the-variants.{Refused as Frame-refused}
+use Rattle.ilbm_spec.specs.Contents.{Located}
 use Rattle.ilbm_spec.specs.Pictures.{viewOf}
 use Rattle.ilbm_spec.specs.Rows.{lineAnswer, frameAnswer, bytesAfter, lineOf, frameOf}
 use Rattle.ilbm_content.specs.declared.Part.the-variants.{Nothing}
@@ -16,48 +18,47 @@ use Rattle.ilbm_content.specs.declared.Contents.{Contents}
 use Rattle.ilbm_find.specs.declared.View.{View}
 use Rattle.ilbm_find.specs.declared.View.the-variants.{Seen, Refused as View-refused}
 use Rattle.ilbm_find.specs.Seen.{ViewIs}
-use Rattle.ilbm_properties.specs.Fields.{Judged}
 use Rattle.iff_tree.specs.Judge.{refused}
-use Rattle.ilbm_body_rows.specs.Lines.{LineDone, FrameDone}
+use Rattle.ilbm_rows.specs.Lines.{Judged, LineDone, FrameDone}
 
-no-body : (s : List ℕ) (bodies : List (List ℕ)) → Shows s Nothing (firstOf bodies) → bodies ≡ []
+no-body : (s : List ℕ) (bodies : List Located) → Shows s Nothing (firstOf bodies) → bodies ≡ []
 no-body s [] w = refl
 no-body s (d ∷ ds) w = absurd w
 
-module _ (s : List ℕ) (c : Contents) (i : c .body ≡ Nothing) where
-  pub line-25 : (start : ℕ) (old : List ℕ) → LineDone s c start old (Refused 25 0) old
+module _ (s : List ℕ) (c : Contents) (h : BitmapHeader) (i : c .body ≡ Nothing) where
+  pub line-25 : (start : ℕ) (old : List ℕ) → LineDone s c h start old (Refused 25 0) old
   line-25 start old =
-      record { told = λ x k. rw (no-body s (x .bodies) (rw i at (k .body))); row = λ x k. rw (no-body s (x .bodies) (rw i at (k .body))) }
+      record { answer = λ x k. rw (no-body s (x .bodies) (rw i at (k .parts .body))); row = λ x k. rw (no-body s (x .bodies) (rw i at (k .parts .body))) }
 
-  pub frame-25 : (old : List ℕ) → FrameDone s c old (Frame-refused 25 0) old
+  pub frame-25 : (old : List ℕ) → FrameDone s c h old (Frame-refused 25 0) old
   frame-25 old =
-      record { told = λ x k. rw (no-body s (x .bodies) (rw i at (k .body))); frame = λ x k. rw (no-body s (x .bodies) (rw i at (k .body))) }
+      record { answer = λ x k. rw (no-body s (x .bodies) (rw i at (k .parts .body))); frame = λ x k. rw (no-body s (x .bodies) (rw i at (k .parts .body))) }
 
 -- from the view to the answers
 module _ (s : List ℕ) (i : ℕ) (v : View) (w : ViewIs s v (viewOf s i)) where
-  pub seen-judged : (c : Contents) → v ≡ Seen c → Judged s c
-  seen-judged c j = let x : ViewIs s (Seen c) (viewOf s i) = rw j at w in (x .0, x .2, x .3)
+  pub seen-judged : (c : Contents) (h : BitmapHeader) → v ≡ Seen c h → Judged s c h
+  seen-judged c h j = let x : ViewIs s (Seen c h) (viewOf s i) = rw j at w in (x .0, x .2)
 
   pub line-seen :
-      (c : Contents) (start : ℕ) (old new : List ℕ) (r : LineAnswer) → v ≡ Seen c → LineDone s c start old r new →
+      (c : Contents) (h : BitmapHeader) (start : ℕ) (old new : List ℕ) (r : LineAnswer) → v ≡ Seen c h → LineDone s c h start old r new →
       (r ≡ lineAnswer (lineOf s i start (length old))) × (new ≡ bytesAfter (lineOf s i start (length old)) old)
-  line-seen c start old new r j k =
-      let x : ViewIs s (Seen c) (viewOf s i) = rw j at w in
+  line-seen c h start old new r j k =
+      let x : ViewIs s (Seen c h) (viewOf s i) = rw j at w in
       rw (x .1) (k .answer (x .0) (x .2), k .row (x .0) (x .2))
 
-  pub line-unseen :
+  pub line-refused :
       (f p start : ℕ) (old : List ℕ) → v ≡ View-refused f p →
       (Refused f p ≡ lineAnswer (lineOf s i start (length old))) × (old ≡ bytesAfter (lineOf s i start (length old)) old)
-  line-unseen f p start old j = let x : viewOf s i ≡ refused f p = rw j at w in rw x (refl, refl)
+  line-refused f p start old j = let x : viewOf s i ≡ refused f p = rw j at w in rw x (refl, refl)
 
   pub frame-seen :
-      (c : Contents) (old new : List ℕ) (r : FrameAnswer) → v ≡ Seen c → FrameDone s c old r new →
+      (c : Contents) (h : BitmapHeader) (old new : List ℕ) (r : FrameAnswer) → v ≡ Seen c h → FrameDone s c h old r new →
       (r ≡ frameAnswer (frameOf s i (length old))) × (new ≡ bytesAfter (frameOf s i (length old)) old)
-  frame-seen c old new r j k =
-      let x : ViewIs s (Seen c) (viewOf s i) = rw j at w in
+  frame-seen c h old new r j k =
+      let x : ViewIs s (Seen c h) (viewOf s i) = rw j at w in
       rw (x .1) (k .answer (x .0) (x .2), k .frame (x .0) (x .2))
 
-  pub frame-unseen :
+  pub frame-refused :
       (f p : ℕ) (old : List ℕ) → v ≡ View-refused f p →
       (Frame-refused f p ≡ frameAnswer (frameOf s i (length old))) × (old ≡ bytesAfter (frameOf s i (length old)) old)
-  frame-unseen f p old j = let x : viewOf s i ≡ refused f p = rw j at w in rw x (refl, refl)
+  frame-refused f p old j = let x : viewOf s i ≡ refused f p = rw j at w in rw x (refl, refl)

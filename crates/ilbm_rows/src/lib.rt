@@ -2,21 +2,27 @@
 use ilbm_body_rows::body_frame;
 use ilbm_body_rows::body_line;
 use ilbm_content::Contents;
-use ilbm_spec::FrameAnswer;
-use ilbm_spec::LineAnswer;
 use ilbm_content::Part;
 use ilbm_find::View;
 use ilbm_find::view_picture;
+use ilbm_spec::BitmapHeader;
+use ilbm_spec::FrameAnswer;
+use ilbm_spec::LineAnswer;
 ghost use mathlib.Core.Path.{_≡_};
 ghost use lib.ListN.{length};
 ghost use Rattle.ilbm_spec.specs.Rows.{lineOf, frameOf, lineAnswer, frameAnswer, bytesAfter};
-ghost use Rattle.ilbm_properties.specs.Fields.{Judged};
-ghost use Rattle.ilbm_body_rows.specs.Lines.{LineDone, FrameDone};
+ghost use Rattle.ilbm_rows.specs.Lines.{Judged, LineDone, FrameDone};
 
 // A scan line of a picture that is not refused.
-fn picture_line(s: &[u8], c: Contents, start: usize, row: &mut [u8]) -> LineAnswer
-    requires { ⌜ Judged (now s) c ⌝ }
-    ensures { λ r. ⌜ LineDone (now (s .entry)) c start (now (row .entry)) r (now (row .exit)) ⌝ }
+fn picture_line(
+    s: &[u8],
+    c: Contents,
+    header: BitmapHeader,
+    start: usize,
+    row: &mut [u8],
+) -> LineAnswer
+    requires { ⌜ Judged (now s) c header ⌝ }
+    ensures { λ r. ⌜ LineDone (now (s .entry)) c header start (now (row .entry)) r (now (row .exit)) ⌝ }
 {
     let body = c.body;
     match body {
@@ -24,7 +30,15 @@ fn picture_line(s: &[u8], c: Contents, start: usize, row: &mut [u8]) -> LineAnsw
             number: 25,
             place: 0,
         },
-        Part::Between(a, b) => body_line(s, c, a, b, start, row),
+        Part::Between(a, b) => body_line(
+            &s[a..b],
+            header.w,
+            header.planes,
+            header.masking,
+            header.compression,
+            start,
+            row,
+        ),
     }
 }
 
@@ -35,15 +49,15 @@ pub fn scan_line(s: &[u8], i: usize, start: usize, row: &mut [u8]) -> LineAnswer
 {
     let v = view_picture(s, i);
     match v {
-        View::Seen(c) => picture_line(s, c, start, row),
+        View::Seen(c, header) => picture_line(s, c, header, start, row),
         View::Refused(number, place) => LineAnswer::Refused { number, place },
     }
 }
 
 // The frame of a picture that is not refused.
-fn picture_frame(s: &[u8], c: Contents, frame: &mut [u8]) -> FrameAnswer
-    requires { ⌜ Judged (now s) c ⌝ }
-    ensures { λ r. ⌜ FrameDone (now (s .entry)) c (now (frame .entry)) r (now (frame .exit)) ⌝ }
+fn picture_frame(s: &[u8], c: Contents, header: BitmapHeader, frame: &mut [u8]) -> FrameAnswer
+    requires { ⌜ Judged (now s) c header ⌝ }
+    ensures { λ r. ⌜ FrameDone (now (s .entry)) c header (now (frame .entry)) r (now (frame .exit)) ⌝ }
 {
     let body = c.body;
     match body {
@@ -51,7 +65,15 @@ fn picture_frame(s: &[u8], c: Contents, frame: &mut [u8]) -> FrameAnswer
             number: 25,
             place: 0,
         },
-        Part::Between(a, b) => body_frame(s, c, a, b, frame),
+        Part::Between(a, b) => body_frame(
+            &s[a..b],
+            header.w,
+            header.h,
+            header.planes,
+            header.masking,
+            header.compression,
+            frame,
+        ),
     }
 }
 
@@ -62,7 +84,7 @@ pub fn whole_frame(s: &[u8], i: usize, frame: &mut [u8]) -> FrameAnswer
 {
     let v = view_picture(s, i);
     match v {
-        View::Seen(c) => picture_frame(s, c, frame),
+        View::Seen(c, header) => picture_frame(s, c, header, frame),
         View::Refused(number, place) => FrameAnswer::Refused { number, place },
     }
 }

@@ -1,2 +1,4 @@
 pub mod Ignored
 pub mod Moved
+pub mod Pictures
+pub mod Rows

@@ -7,7 +7,7 @@ use Rattle.iff_name.specs.Name.{wellFormed, versionName, kindOf, typeBytes, res
 use Rattle.iff_chunk.specs.Chunks.{word, count}
 use Rattle.iff_rules.specs.Rules.{propWithin}
 use Rattle.iff_header.specs.Checks.{groupHeaderOf, headerOf}
-use Rattle.iff_tree.specs.Judge.{run, chunkAt, readFile, checkOf}
+use Rattle.iff_tree.specs.Judge.{found, run, chunkAt, readFile, checkOf}
 use Rattle.iff_tree.specs.declared.Verdict.the-variants.{Accepted, Refused}
 use Rattle.byterun_row.specs.ByteRun.{filled, over, short, codeOf, unpackBy, unpackRow, plainRow}
 use Rattle.byterun_pieces.specs.Pieces.{three, sameFor, plainFor, pieceOf}

@@ -1,6 +1,6 @@
 -- A picture that is seen was judged; a refusal is passed on and leaves the row.
 use borrow.Author.Needs.{needs}
-use Rattle.ilbm_rows.proofs.Laws.{seen-judged, line-seen, line-unseen}
+use Rattle.ilbm_rows.proofs.Laws.{seen-judged, line-seen, line-refused}
 use Rattle.ilbm_rows.proofs.scan_line.Statement.{statement}
 use Rattle.ilbm_rows.proofs.scan_line.Tie as tie
 
@@ -21,11 +21,11 @@ same-length c = search needs
 
 returns : tie.Need-returns
 returns c =
-    line-seen _ _ _ (c .before .before .before .before .before .before .before .view-picture .ensures .0) _ _ _ _ _ (c .before .before .before .before .before .v .given .1)
+    line-seen _ _ _ (c .before .before .before .before .before .before .before .view-picture .ensures) _ _ _ _ _ _ (c .before .before .before .before .before .v .given .1)
     (c .before .before .picture-line .ensures)
 
 returns-2 : tie.Need-returns-2
-returns-2 c = line-unseen _ _ _ (c .before .before .before .view-picture .ensures .0) _ _ _ _ (c .before .v2 .given .1)
+returns-2 c = line-refused _ _ _ (c .before .before .before .view-picture .ensures) _ _ _ _ (c .before .v2 .given .1)
 
 pub scan-line-spec : {M : Type 1} → statement M
 scan-line-spec =

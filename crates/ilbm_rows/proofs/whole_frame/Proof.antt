@@ -1,6 +1,6 @@
 -- A picture that is seen was judged; a refusal is passed on and leaves the frame.
 use borrow.Author.Needs.{needs}
-use Rattle.ilbm_rows.proofs.Laws.{seen-judged, frame-seen, frame-unseen}
+use Rattle.ilbm_rows.proofs.Laws.{seen-judged, frame-seen, frame-refused}
 use Rattle.ilbm_rows.proofs.whole_frame.Statement.{statement}
 use Rattle.ilbm_rows.proofs.whole_frame.Tie as tie
 
@@ -21,11 +21,11 @@ same-length c = search needs
 
 returns : tie.Need-returns
 returns c =
-    frame-seen _ _ _ (c .before .before .before .before .before .before .before .view-picture .ensures .0) _ _ _ _ (c .before .before .before .before .before .v .given .1)
+    frame-seen _ _ _ (c .before .before .before .before .before .before .before .view-picture .ensures) _ _ _ _ _ (c .before .before .before .before .before .v .given .1)
     (c .before .before .picture-frame .ensures)
 
 returns-2 : tie.Need-returns-2
-returns-2 c = frame-unseen _ _ _ (c .before .before .before .view-picture .ensures .0) _ _ _ (c .before .v2 .given .1)
+returns-2 c = frame-refused _ _ _ (c .before .before .before .view-picture .ensures) _ _ _ (c .before .v2 .given .1)
 
 pub whole-frame-spec : {M : Type 1} → statement M
 whole-frame-spec =
