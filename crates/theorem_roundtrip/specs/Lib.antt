@@ -1,3 +1,4 @@
+pub mod Expected
 pub mod Header
 pub mod RoundTrip
 pub mod laws

@@ -13,18 +13,20 @@ use Rattle.iff_tree.specs.Judge.{found, readFile, checkOf, refused}
 use Rattle.ilbm_spec.specs.declared.BitmapHeader.{BitmapHeader}
 use Rattle.ilbm_spec.specs.declared.PictureAnswer.the-variants.{Shown}
 use Rattle.ilbm_spec.specs.Contents.{contentsOf}
-use Rattle.ilbm_spec.specs.Pictures.{Viewed, viewOf, pickContent, pictureAnswer, pictureOf, paletteBytes, paletteOf}
+use Rattle.ilbm_spec.specs.Pictures.{Viewed, viewOf, pickContent, pictureAnswer, pictureOf}
+use Rattle.ilbm_spec.specs.Palette.{answerIn, paletteAnswer}
 use Rattle.ilbm_spec.specs.Rows.{rowsInLine, linesBy, frameRead, frameOf}
 use Rattle.write_picture.specs.declared.WriteAnswer.{WriteAnswer}
 use Rattle.write_picture.specs.declared.WriteAnswer.the-variants.{Written}
 use Rattle.write_body.specs.Body.{bodyLines, bodyBytes}
 use Rattle.write_form.specs.File.{pictureForm, pictureFile}
 use Rattle.write_picture.specs.Write.{writeOf, outAfter}
+use Rattle.theorem_roundtrip.specs.Expected.{chunksFor, pictureFor}
 use Rattle.theorem_roundtrip.specs.Header.{InRange, withoutPad}
 use Rattle.theorem_roundtrip.specs.laws.Header.{header-back}
 use Rattle.theorem_roundtrip.specs.laws.Lines.{lines-back}
-use Rattle.theorem_roundtrip.specs.laws.Seen.{contentFor, one-content, pictureFor, picture-told, palette-told, no-refusal}
-use Rattle.theorem_roundtrip.specs.laws.Tree.{chunksFor, file-read, file-told}
+use Rattle.theorem_roundtrip.specs.laws.Seen.{contentFor, one-content, picture-told, palette-told, no-refusal}
+use Rattle.theorem_roundtrip.specs.laws.Tree.{file-read, file-told}
 use Rattle.theorem_roundtrip.specs.laws.Writable.{Writable, written-writable}
 
 -- A file that reads as this picture and holds nothing else.
@@ -34,7 +36,7 @@ pub record ReadsBack (s : List ℕ) (b : BitmapHeader) (palette frame : List ℕ
   pub pictures : length (contentsOf (pictureForm b palette frame)) ≡ 1
   pub others : (i : ℕ) → viewOf s (suc i) ≡ refused 20 0
   pub picture : pictureOf s 0 ≡ Shown (pictureFor b palette)
-  pub paletteBack : paletteOf s 0 [] ≡ palette
+  pub paletteBack : paletteAnswer s 0 [] ≡ record { number = 0; place = 0; colours = palette }
   pub frameBack : frameOf s 0 (b .w * b .h) ≡ found (frame, 0)
 
 same-lines : (b : BitmapHeader) (frame : List ℕ) (lines : ℕ) → bodyLines (withoutPad b) frame lines ≡ bodyLines b frame lines
@@ -72,7 +74,7 @@ module _ (b : BitmapHeader) (palette frame : List ℕ) (room n : ℕ) (range : I
         pictures = rw (one-content b palette frame);
         others = λ i. no-more i;
         picture = ap pictureAnswer view-back ∙ ap Shown (picture-told b palette frame range);
-        paletteBack = ap (λ (v : Viewed). paletteBytes v []) view-back ∙ palette-told palette;
+        paletteBack = ap (λ (v : Viewed). answerIn v []) view-back ∙ rw (palette-told b palette frame);
         frameBack = ap (λ (v : Viewed). frameRead v (b .w * b .h)) view-back ∙ frame-read;
       }
 

@@ -1,77 +1,71 @@
 -- The one picture of the written file: its properties, and that none of 21 to 24 is given.
-use Prim.Native.Nat.{ℕ, _%_}
+use Prim.Native.Nat.{ℕ, _+_, _%_}
 use mathlib.Core.Path.{_≡_, refl}
 use mathlib.Core.Bool.{true, false}
 use mathlib.Core.List.{List, [], _∷_}
-use lib.IntN.{pos}
 use lib.ListN.{length}
 use borrow.Author.Tests.{eq-eqb}
 use Rattle.iff_chunk.specs.Chunks.{word}
-use Rattle.ilbm_spec.specs.declared.Origin.the-variants.{Own, Absent}
 use Rattle.ilbm_spec.specs.declared.BitmapHeader.{BitmapHeader}
-use Rattle.ilbm_spec.specs.declared.Picture.{Picture}
-use Rattle.ilbm_spec.specs.Contents.{lastOwn, propertyOf, bodiesIn, Property, own, absent, Content, contentsFrom, contentsOf}
+use Rattle.ilbm_spec.specs.Contents.{located, lastNamed, propertyOf, bodiesFrom, Property, own, absent, Content, contentsFrom, contentsOf}
 use Rattle.ilbm_spec.specs.Pictures.{headerIn, hotSpotIn, destinationIn, originOf, sizeNotTriples, wrongSize, headerRefusal, pictureRefusal, pictureFrom, paletteFrom}
 use Rattle.write_body.specs.Body.{bodyBytes}
-use Rattle.write_form.specs.File.{headerBytes, pictureForm}
-use Rattle.theorem_roundtrip.specs.Header.{InRange, withoutPad}
+use Rattle.write_form.specs.File.{headerBytes, padOf, pictureForm}
+use Rattle.theorem_roundtrip.specs.Header.{InRange}
 use Rattle.theorem_roundtrip.specs.laws.Header.{header-back}
 use Rattle.theorem_roundtrip.specs.laws.Writable.{Writable}
+use Rattle.theorem_roundtrip.specs.Expected.{paletteOrigin, pictureFor}
+
+-- where CMAP stands, and where BODY stands behind it
+abbrev cmapPlace : BitmapHeader → ℕ
+cmapPlace b = 12 + (8 + length (headerBytes b) + 0)
+
+abbrev bodyPlace : BitmapHeader → List ℕ → ℕ
+bodyPlace b [] = cmapPlace b
+bodyPlace b (x ∷ xs) = cmapPlace b + (8 + length (x ∷ xs) + length (padOf (x ∷ xs)))
 
 -- CMAP is the FORM's own, or absent if the palette is empty
-abbrev pub paletteProperty : List ℕ → Property
-paletteProperty [] = absent
-paletteProperty (x ∷ xs) = own (x ∷ xs)
+abbrev paletteProperty : ℕ → List ℕ → Property
+paletteProperty p [] = absent
+paletteProperty p (x ∷ xs) = own (located p (x ∷ xs))
 
 abbrev pub contentFor : BitmapHeader → List ℕ → List ℕ → Content
 contentFor b palette frame =
     record {
-      bmhd = own (headerBytes b);
-      cmap = paletteProperty palette;
+      place = 0;
+      bmhd = own (located 12 (headerBytes b));
+      cmap = paletteProperty (cmapPlace b) palette;
       grab = absent;
       dest = absent;
       sprt = absent;
       camg = absent;
-      bodies = bodyBytes b frame ∷ [];
+      bodies = located (bodyPlace b palette) (bodyBytes b frame) ∷ [];
     }
 
 pub one-content : (b : BitmapHeader) (palette frame : List ℕ) → contentsOf (pictureForm b palette frame) ≡ contentFor b palette frame ∷ []
-unfolding contentsFrom propertyOf lastOwn bodiesIn
+unfolding contentsFrom propertyOf lastNamed bodiesFrom
 one-content b [] frame = refl
 one-content b (x ∷ xs) frame = refl
 
--- what the picture call tells: the same fields but pad1, GRAB, DEST, SPRT and CAMG absent
-abbrev pub pictureFor : BitmapHeader → List ℕ → Picture
-pictureFor b palette =
-    record {
-      header = withoutPad b;
-      «header_from» = Own;
-      «palette_from» = originOf (paletteProperty palette);
-      grab = record { x = pos 0; y = pos 0 };
-      «grab_from» = Absent;
-      destination = record { depth = 0; pad1 = 0; «plane_pick» = 0; «plane_on_off» = 0; «plane_mask» = 0 };
-      «destination_from» = Absent;
-      sprite = 0;
-      «sprite_from» = Absent;
-      «view_mode» = 0;
-      «view_mode_from» = Absent;
-    }
+palette-origin : (p : ℕ) (palette : List ℕ) → originOf (paletteProperty p palette) ≡ paletteOrigin palette
+palette-origin p [] = refl
+palette-origin p (x ∷ xs) = refl
 
 pub picture-told : (b : BitmapHeader) (palette frame : List ℕ) → InRange b → pictureFrom (contentFor b palette frame) ≡ pictureFor b palette
 unfolding pictureFrom hotSpotIn destinationIn word
-picture-told b palette frame r = rw (header-back b r)
+picture-told b palette frame r = rw (header-back b r, palette-origin (cmapPlace b) palette)
 
-pub palette-told : (palette : List ℕ) → paletteFrom (paletteProperty palette) [] ≡ palette
-palette-told [] = refl
-palette-told (x ∷ xs) = refl
+pub palette-told : (b : BitmapHeader) (palette frame : List ℕ) → paletteFrom (contentFor b palette frame .cmap) [] ≡ palette
+palette-told b [] frame = refl
+palette-told b (x ∷ xs) frame = refl
 
-triples-right : (palette : List ℕ) → length palette % 3 ≡ 0 → sizeNotTriples (paletteProperty palette) ≡ false
-triples-right [] e = refl
-triples-right (x ∷ xs) e = rw (eq-eqb (length (x ∷ xs) % 3) 0 e)
+triples-right : (p : ℕ) (palette : List ℕ) → length palette % 3 ≡ 0 → sizeNotTriples (paletteProperty p palette) ≡ false
+triples-right p [] e = refl
+triples-right p (x ∷ xs) e = rw (eq-eqb (length (x ∷ xs) % 3) 0 e)
 
 sizes-right : (b : BitmapHeader) (palette frame : List ℕ) → length palette % 3 ≡ 0 → wrongSize (contentFor b palette frame) ≡ false
 unfolding wrongSize headerBytes
-sizes-right b palette frame e = rw (triples-right palette e)
+sizes-right b palette frame e = rw (triples-right (cmapPlace b) palette e)
 
 module _ (b : BitmapHeader) (palette frame : List ℕ) (room n : ℕ) (range : InRange b) (may : Writable b palette frame room n) where
   fields-right : headerRefusal (headerIn (headerBytes b)) true ≡ 0

@@ -15,11 +15,7 @@ use Rattle.ilbm_spec.specs.declared.BitmapHeader.{BitmapHeader}
 use Rattle.ilbm_spec.specs.Names.{BODY}
 use Rattle.write_body.specs.Body.{bodyBytes}
 use Rattle.write_form.specs.File.{headerBytes, padOf, paletteThen, pictureForm, pictureFile}
-
--- FORM, BMHD and BODY, and CMAP if there is a palette
-abbrev pub chunksFor : List ℕ → ℕ
-chunksFor [] = 3
-chunksFor (x ∷ xs) = 4
+use Rattle.theorem_roundtrip.specs.Expected.{chunksFor}
 
 body-stands : (body : List ℕ) → Members InForm [] (leaf BODY body (padOf body) none)
 unfolding kindOf wellFormed versionName
