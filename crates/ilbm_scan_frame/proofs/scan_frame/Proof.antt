@@ -1,4 +1,4 @@
--- `scan_frame` meets its contract: a frame whose rows were all judged sound may be written, and a fault leaves the frame.
+-- `scan_frame` meets its contract: a frame whose rows were all judged sound may be written, and a refusal leaves the frame.
 use Prim.Native.Nat.{ℕ}
 use native.Mathlib.Omega.{arith}
 use lib.ListN.{length-replicate}

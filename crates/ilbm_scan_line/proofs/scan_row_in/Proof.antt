@@ -1,4 +1,4 @@
--- `scan_row_in` meets its contract: a line whose rows were judged sound may be written, and a fault leaves the row.
+-- `scan_row_in` meets its contract: a line whose rows were judged sound may be written, and a refusal leaves the row.
 use native.Mathlib.Omega.{arith}
 use borrow.Author.Needs.{needs}
 use Rattle.ilbm_plane_rows.proofs.Lines.{lines, count-room, line-read, line-refusal}
