@@ -21,7 +21,8 @@ use Rattle.list_spec.specs.laws.Data.{extent-lies, record-inside}
 
 module _ (r : Record) (g : Bool) (e : g ≡ isGroup (r .kind)) where
   pub extent-plain :
-      g ≡ false → _≡_ {A = Extent} (record { number = 0; place = 0; from = r .place + 8; to = r .place + 8 + r .size }) (extentIn (Listed-chunk r))
+      g ≡ false →
+      _≡_ {A = Extent} (record { number = 0; place = 0; from = r .place + 8; to = r .place + 8 + r .size }) (extentIn (Listed-chunk r))
   extent-plain i = rw (← e, i)
 
   pub extent-group : (x : Extent) → x ≡ noExtent 15 0 → g ≡ true → x ≡ extentIn (Listed-chunk r)

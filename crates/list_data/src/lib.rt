@@ -48,7 +48,8 @@ fn extent_in(r: Record) -> Extent
 
 // Where the data of the chunk of a number lies in the file; 14 if there is no such record, 15 for a group.
 pub fn data_extent(s: &[u8], number: usize) -> Extent
-    ensures { λ r. ⌜ (r ≡ extentOf (now (s .entry)) number) × Lies (now (s .entry)) (r .from) (r .to) (dataOf (now (s .entry)) number) ⌝ }
+    ensures { λ r. ⌜ (r ≡ extentOf (now (s .entry)) number) ×
+        Lies (now (s .entry)) (r .from) (r .to) (dataOf (now (s .entry)) number) ⌝ }
 {
     let l = record_by_number(s, number);
     match l {
@@ -60,7 +61,8 @@ pub fn data_extent(s: &[u8], number: usize) -> Extent
 // The part of a file that an extent names.
 pub fn part_of(s: &[u8], x: Extent) -> &[u8]
     requires { ⌜ (x .from ≤ x .to) × (x .to ≤ length (now s)) ⌝ }
-    ensures { λ r. ⌜ (now r ≡ take (x .to - x .from) (drop (x .from) (now (s .entry)))) × (r .ptr ≡ (s .entry .ptr .0, x .from + s .entry .ptr .1)) ⌝ }
+    ensures { λ r. ⌜ (now r ≡ take (x .to - x .from) (drop (x .from) (now (s .entry)))) ×
+        (r .ptr ≡ (s .entry .ptr .0, x .from + s .entry .ptr .1)) ⌝ }
 {
     let from = x.from;
     let to = x.to;

@@ -37,7 +37,8 @@ pub fn next<'a>(r: Reader<'a>) -> Step
 
 // The reader one record further.
 pub fn advanced<'a>(r: Reader<'a>) -> Reader<'a>
-    ensures { λ q. ⌜ (q .file ≡ r .entry .file) × (q .place ≡ placeAfter (now (r .entry .file)) (r .entry .place)) × (q .refusal ≡ r .entry .refusal) ⌝ }
+    ensures { λ q. ⌜ (q .file ≡ r .entry .file) × (q .place ≡ placeAfter (now (r .entry .file)) (r .entry .place)) ×
+        (q .refusal ≡ r .entry .refusal) ⌝ }
 {
     let file = r.file;
     let place = place_after(file, r.place);

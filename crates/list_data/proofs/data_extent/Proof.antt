@@ -28,13 +28,15 @@ returns : tie.Need-returns
 returns c =
     let k = c .before .before .before .before .before in
     let b : Bytes (k .before .args .s .now) = λ i. omega (arith, k .shared-slice-known .given i) in
-    extent-found _ _ _ (c .before .before .before .before .record-by-number .ensures) b _ (c .before .before .l .given .1) _ (c .extent-in .ensures)
+    extent-found _ _ _ (c .before .before .before .before .record-by-number .ensures) b _
+    (c .before .before .l .given .1) _ (c .extent-in .ensures)
 
 returns-2 : tie.Need-returns-2
 returns-2 c =
     let k = c .before .before .before .before .before in
     let b : Bytes (k .before .args .s .now) = λ i. omega (arith, k .shared-slice-known .given i) in
-    extent-refused _ _ _ (c .before .before .before .before .record-by-number .ensures) b _ _ (c .before .before .l2 .given .1) _ (c .no-extent .ensures)
+    extent-refused _ _ _ (c .before .before .before .before .record-by-number .ensures) b _ _
+    (c .before .before .l2 .given .1) _ (c .no-extent .ensures)
 
 pub data-extent-spec : {M : Type 1} → statement M
 data-extent-spec =
