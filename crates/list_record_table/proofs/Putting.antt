@@ -79,7 +79,7 @@ module _ {M : Type 1} (𝓤 : URA M) (H : Heap 𝓤) (A : Atoms 𝓤) (W : Given
         ∷ ‵ (fdies tyUnit l₀) ∷ ‵ (fdies fileTy l₁) ∷ ‵ (fdies tableTy l₂) ∷ ‵ (fdies word l₃) ∷ ‵ (fdies Cur′.mir l₄) ∷ ‵ (fdies word l₅) ∷ ‵ (fdies tyBool l₆) ∷ ‵ (fdies Rec′.mir l₇) ∷ ‵ (fdies word l₈) ∷ ‵ (fdies tyPtr l₉) ∷ []
 
     abbrev pub At : Turn (file .now) n ys → List (Item 𝓤)
-    At t = ‵ (row R fullShare (t .zs) b o) ∷ ‵ (fat fullShare Cur′.mir l₄ 0 (t .val)) ∷ ‵ (fat fullShare word l₅ 0 (vint w64 (t .i))) ∷ ‵ (froom tyBool l₆ 0) ∷ ‵ (froom Rec′.mir l₇ 0) ∷ ‵ (froom word l₈ 0) ∷ ‵ (froom tyPtr l₉ 0) ∷ Frame
+    At t = ‵ (row R fullShare (t .rows .zs) b o) ∷ ‵ (fat fullShare Cur′.mir l₄ 0 (t .val)) ∷ ‵ (fat fullShare word l₅ 0 (vint w64 (t .rows .i))) ∷ ‵ (froom tyBool l₆ 0) ∷ ‵ (froom Rec′.mir l₇ 0) ∷ ‵ (froom word l₈ 0) ∷ ‵ (froom tyPtr l₉ 0) ∷ Frame
 
     -- what there is before the loop, with what stands at the locals of i and the cursor
     abbrev pub Before : Item 𝓤 → Item 𝓤 → List (Item 𝓤)

@@ -72,7 +72,8 @@ use Rattle.list_record_table.proofs.put_records.Code as code
 use Rattle.list_record_table.proofs.put_records.Code.Mir as body
 use Rattle.list_record_table.proofs.Locals.{R, word, fileTy, tableTy, table, file-val, table-val, FileOwn}
 use Rattle.list_record_table.proofs.Callees.{First, RecordAt, Advance, cur-typed, rec-typed, to-first, goes-first, first-says, to-record, to-advance, asks, record-says, advance-says}
-use Rattle.list_record_table.proofs.Turns.{Turn, same-length, start, meets, less, following, within, offset-fits, next-fits}
+use Rattle.list_record_table.proofs.RowTurns.{same-length, less, within, offset-fits, next-fits}
+use Rattle.list_record_table.proofs.Turns.{Turn, start, meets, following}
 use Rattle.list_record_table.proofs.ByTurns.{loops}
 use Rattle.list_record_table.proofs.Putting.{stayed, args, vals, Post, exits, En as env-at, At as at-turn, Before}
 
@@ -114,29 +115,29 @@ module _ {M : Type 1} (𝓤 : URA M) (H : Heap 𝓤) (A : Atoms 𝓤) (W : Given
     Left = afterBlock 𝓤 H (afterSeq 𝓤 H (Wp 𝓤 H (𝓣 .C) (𝓣 .Λ) En body.t-4 (atReturn 𝓤 H En Owed)) (atReturn 𝓤 H En Owed))
 
     -- the turn that leaves the loop
-    ends : (t : Turn s n ys) (X : SProp 𝓤) → n ≤ t .i → ent 𝓤 (⋆ 𝓤 H A (At t)) (Wp 𝓤 H (𝓣 .C) (𝓣 .Λ) En body.turn-1 (afterTurn 𝓤 H X Left))
+    ends : (t : Turn s n ys) (X : SProp 𝓤) → n ≤ t .rows .i → ent 𝓤 (⋆ 𝓤 H A (At t)) (Wp 𝓤 H (𝓣 .C) (𝓣 .Λ) En body.turn-1 (afterTurn 𝓤 H X Left))
     unfolding afterTurn
     ends t X over =
-        let all : t .i ≡ n = omega (arith, over, t .sum) in
+        let all : t .rows .i ≡ n = omega (arith, over, t .rows .sum) in
         qed W (At t) ∵ exec ! (𝓣 .C) (𝓣 .Λ) En body.turn-1 (anyQ (afterTurn 𝓤 H X Left)) $
         assigns ! (bin ! (load ! (from ! (stop !)) (look ! 2 refl)) (load ! (from ! (stop !)) (look ! 9 refl)) tt) (from ! (stop !)) (init ! 3 refl (tt, tt)) $
-        rewrite ! 3 (λ (y : Bool). ‵ (fat fullShare tyBool l₆ 0 (vbool y))) (le-ltb (t .i) n over) refl $
+        rewrite ! 3 (λ (y : Bool). ‵ (fat fullShare tyBool l₆ 0 (vbool y))) (le-ltb (t .rows .i) n over) refl $
         leaves-loop ! (load ! (from ! (stop !)) (look ! 3 refl)) $ exec ! (𝓣 .C) (𝓣 .Λ) En body.t-4 (atRet En Owed) $
         assigns ! (of-opd ! (unit-lit !)) (from ! (stop !)) (init ! 10 refl (tt, tt)) $
-        move ! (0 ∷ 13 ∷ 14 ∷ 15 ∷ []) $ closes-slice ! tt R ys (t .zs) (same-length s n ys t) b o $
+        move ! (0 ∷ 13 ∷ 14 ∷ 15 ∷ []) $ closes-slice ! tt R ys (t .rows .zs) (same-length s n ys (t .rows)) b o $
         -- [obs; the borrow; the table's token; _4; _5; _6; _7; _8; _9; _1; _2; _3; _0; the file's token; the file; and that each local dies]
         returns ! (look ! 12 refl) $ forget ! 3 refl $ forget ! 4 refl $ forget ! 5 refl $ forget ! 9 refl $ forget ! 10 refl $ forget ! 11 refl $ forget ! 12 refl $
         move ! (12 ∷ 15 ∷ []) $ free1 ! $ move ! (9 ∷ 14 ∷ []) $ free1 ! $ move ! (9 ∷ 13 ∷ []) $ free1 ! $ move ! (9 ∷ 12 ∷ []) $ free1 ! $ move ! (3 ∷ 11 ∷ []) $ free1 ! $
         move ! (3 ∷ 10 ∷ []) $ free1 ! $ move ! (3 ∷ 9 ∷ []) $ free1 ! $ move ! (3 ∷ 8 ∷ []) $ free1 ! $ move ! (3 ∷ 7 ∷ []) $ free1 ! $ move ! (3 ∷ 6 ∷ []) $ free1 ! $ free0 ! $
-        by ! (exits 𝓤 H A W mem run κ κ′ q q′ file b o γ ys n n-fits room (t .zs) (subst (λ (k : ℕ). t .zs ≡ partly s k ys) all (t .put)) (same-length s n ys t))
+        by ! (exits 𝓤 H A W mem run κ κ′ q q′ file b o γ ys n n-fits room (t .rows .zs) (subst (λ (k : ℕ). t .rows .zs ≡ partly s k ys) all (t .rows .put)) (same-length s n ys (t .rows)))
 
     -- a turn that puts a record
-    more : (t : Turn s n ys) (X : SProp 𝓤) → t .i < n → ((u : Turn s n ys) → u .left < t .left → ent 𝓤 (⋆ 𝓤 H A (At u)) X) → ent 𝓤 (⋆ 𝓤 H A (At t)) (Wp 𝓤 H (𝓣 .C) (𝓣 .Λ) En body.turn-1 (afterTurn 𝓤 H X Left))
+    more : (t : Turn s n ys) (X : SProp 𝓤) → t .rows .i < n → ((u : Turn s n ys) → u .rows .left < t .rows .left → ent 𝓤 (⋆ 𝓤 H A (At u)) X) → ent 𝓤 (⋆ 𝓤 H A (At t)) (Wp 𝓤 H (𝓣 .C) (𝓣 .Λ) En body.turn-1 (afterTurn 𝓤 H X Left))
     unfolding afterTurn
     more t X small k =
         qed W (At t) ∵ exec ! (𝓣 .C) (𝓣 .Λ) En body.turn-1 (anyQ (afterTurn 𝓤 H X Left)) $
         assigns ! (bin ! (load ! (from ! (stop !)) (look ! 2 refl)) (load ! (from ! (stop !)) (look ! 9 refl)) tt) (from ! (stop !)) (init ! 3 refl (tt, tt)) $
-        rewrite ! 3 (λ (y : Bool). ‵ (fat fullShare tyBool l₆ 0 (vbool y))) (lt-ltb (t .i) n small) refl $
+        rewrite ! 3 (λ (y : Bool). ‵ (fat fullShare tyBool l₆ 0 (vbool y))) (lt-ltb (t .rows .i) n small) refl $
         stays ! (load ! (from ! (stop !)) (look ! 3 refl)) $
         -- `record_at`
         move ! (11 ∷ 12 ∷ []) $ use2 W (raw (RecordAt 𝓤 H A mem run .pre (to-record 𝓤 H A W mem run κ q file (t .cur) (t .val))) ⊛ ‵ Own) (asks 𝓤 H A W mem run κ q file (t .cur) (t .val) (meets s n ys ready t small) (t .is)) $ split ! $
@@ -148,10 +149,10 @@ module _ {M : Type 1} (𝓤 : URA M) (H : Heap 𝓤) (A : Atoms 𝓤) (W : Given
         -- [the record; the file's token; true; the file; the table; _4; _5; _6; _7; _8; _9; _1; _2; _3; …]: it is stored at its place
         assigns ! (bin ! (load ! (from ! (stop !)) (look ! 6 refl)) (lit ! tt) (record { fits = place-fits })) (from ! (stop !)) (init ! 9 refl (tt, record { fits = place-fits })) $
         assigns ! (bin ! (load ! (from ! (fld ! refl (stop !))) (look-in ! 12 (sub ! 0 refl (whole !)))) (load ! (from ! (stop !)) (look ! 9 refl)) tt) (from ! (stop !)) (init ! 10 refl (tt, tt)) $
-        rewrite ! 10 (λ (p : ℕ). ‵ (fat fullShare tyPtr l₉ 0 (vptr b p))) (sym (place-is 40 o (t .i))) refl $
-        move ! (4 ∷ []) $ elem-out ! R (Is R) (shows 𝓤 H A R) (LL.vals Rec.the-type Rec′.the-laws) (LL.tells Rec.the-type Rec′.the-laws) fullShare (t .zs) (t .i) r b o inside (λ _.
+        rewrite ! 10 (λ (p : ℕ). ‵ (fat fullShare tyPtr l₉ 0 (vptr b p))) (sym (place-is 40 o (t .rows .i))) refl $
+        move ! (4 ∷ []) $ elem-out ! R (Is R) (shows 𝓤 H A R) (LL.vals Rec.the-type Rec′.the-laws) (LL.tells Rec.the-type Rec′.the-laws) fullShare (t .rows .zs) (t .rows .i) r b o inside (λ _.
         assigns ! (of-opd ! (load ! (from ! (stop !)) (look ! 10 refl))) (from ! (hop ! (look ! 12 refl) (stop !))) (store-raw ! 0 refl (rec-typed 𝓤 H A W mem run r u is)) $
-        move ! (0 ∷ 3 ∷ 2 ∷ []) $ elem-put ! R fullShare (t .zs) (t .i) r (u ∷ []) b o inside $
+        move ! (0 ∷ 3 ∷ 2 ∷ []) $ elem-put ! R fullShare (t .rows .zs) (t .rows .i) r (u ∷ []) b o inside $
         -- `advance`
         move ! (2 ∷ 4 ∷ []) $ use2 W (raw (Advance 𝓤 H A mem run .pre (to-advance 𝓤 H A W mem run κ q file (t .cur) (t .val))) ⊛ ‵ Own) (asks 𝓤 H A W mem run κ q file (t .cur) (t .val) (meets s n ys ready t small) (t .is)) $ split ! $
         calls-at ! (fmOf 𝓤 H (W .laws) 𝓣) (Advance 𝓤 H A mem run) known-advance (to-advance 𝓤 H A W mem run κ q file (t .cur) (t .val)) (and-then ! (load ! (from ! (stop !)) (look ! 11 refl)) (and-then ! (load ! (from ! (stop !)) (look ! 5 refl)) (no-more !))) (λ v.
@@ -160,23 +161,23 @@ module _ {M : Type 1} (𝓤 : URA M) (H : Heap 𝓤) (A : Atoms 𝓤) (W : Given
         split ! $ split ! $ move ! (2 ∷ []) $ facts ! Cur.the-row (Is Cur.the-row) (shows 𝓤 H A Cur.the-row) c (v ∷ []) (λ is-c.
         -- [the file's token; true; the file; the table; the old record; true; _4; _5; _6; _7; _8; _9; _1; _2; _3; room for _0; …]
         land ! (from ! (stop !)) (store ! 6 refl (cur-typed 𝓤 H A W mem run c v is-c)) $
-        assigns-last ! (bin ! (load ! (from ! (stop !)) (look ! 7 refl)) (lit ! tt) (record { fits = next-fits s n ys ready t small n-fits })) (from ! (stop !)) (store ! 7 refl (tt, record { fits = next-fits s n ys ready t small n-fits })) $
+        assigns-last ! (bin ! (load ! (from ! (stop !)) (look ! 7 refl)) (lit ! tt) (record { fits = next-fits s n ys (t .rows) small n-fits })) (from ! (stop !)) (store ! 7 refl (tt, record { fits = next-fits s n ys (t .rows) small n-fits })) $
         forget ! 8 refl $ forget ! 9 refl $ forget ! 10 refl $ forget ! 11 refl $
         keep ! (3 ∷ 6 ∷ 7 ∷ 8 ∷ 9 ∷ 10 ∷ 11 ∷ 12 ∷ 13 ∷ 14 ∷ 15 ∷ 0 ∷ 2 ∷ 16 ∷ 17 ∷ 18 ∷ 19 ∷ 20 ∷ 21 ∷ 22 ∷ 23 ∷ 24 ∷ 25 ∷ 26 ∷ 27 ∷ 28 ∷ []) $
-        by ! (k (following s n ys ready t small r e c g v is-c) (less s n ys ready t small)))))))))))
+        by ! (k (following s n ys ready t small r e c g v is-c) (less s n ys (t .rows) small)))))))))))
       where
-        inside : t .i < length (t .zs)
-        inside = within s n ys ready t small enough
+        inside : t .rows .i < length (t .rows .zs)
+        inside = within s n ys (t .rows) small enough
 
-        place-fits : t .i * 40 < 2 ^ 64
-        place-fits = offset-fits s n ys ready t small enough (room .1)
+        place-fits : t .rows .i * 40 < 2 ^ 64
+        place-fits = offset-fits s n ys (t .rows) small enough (room .1)
 
-    turns : (t : Turn s n ys) (X : SProp 𝓤) → ((u : Turn s n ys) → u .left < t .left → ent 𝓤 (⋆ 𝓤 H A (At u)) X) → ent 𝓤 (⋆ 𝓤 H A (At t)) (Wp 𝓤 H (𝓣 .C) (𝓣 .Λ) En body.turn-1 (afterTurn 𝓤 H X Left))
-    turns t X k = by-test (ltb (t .i) n) refl
+    turns : (t : Turn s n ys) (X : SProp 𝓤) → ((u : Turn s n ys) → u .rows .left < t .rows .left → ent 𝓤 (⋆ 𝓤 H A (At u)) X) → ent 𝓤 (⋆ 𝓤 H A (At t)) (Wp 𝓤 H (𝓣 .C) (𝓣 .Λ) En body.turn-1 (afterTurn 𝓤 H X Left))
+    turns t X k = by-test (ltb (t .rows .i) n) refl
       where
-        by-test : (y : Bool) → ltb (t .i) n ≡ y → ent 𝓤 (⋆ 𝓤 H A (At t)) (Wp 𝓤 H (𝓣 .C) (𝓣 .Λ) En body.turn-1 (afterTurn 𝓤 H X Left))
-        by-test true e = more t X (ltb-true (t .i) n e) k
-        by-test false e = ends t X (ltb-false (t .i) n e)
+        by-test : (y : Bool) → ltb (t .rows .i) n ≡ y → ent 𝓤 (⋆ 𝓤 H A (At t)) (Wp 𝓤 H (𝓣 .C) (𝓣 .Λ) En body.turn-1 (afterTurn 𝓤 H X Left))
+        by-test true e = more t X (ltb-true (t .rows .i) n e) k
+        by-test false e = ends t X (ltb-false (t .rows .i) n e)
 
     -- before the loop, with i and the cursor set, and with neither
     abbrev Set : Val → List (Item 𝓤)
@@ -186,14 +187,14 @@ module _ {M : Type 1} (𝓤 : URA M) (H : Heap 𝓤) (A : Atoms 𝓤) (W : Given
     Unset = Before 𝓤 H A W mem run κ κ′ q q′ file b o γ ys n l₀ l₁ l₂ l₃ l₄ l₅ l₆ l₇ l₈ l₉ (‵ (froom word l₅ 0)) (‵ (froom Cur′.mir l₄ 0))
 
     -- the borrow of the table is opened, and the loop runs
-    begins : (t : Turn s n ys) → t .i ≡ 0 → t .zs ≡ ys → ent 𝓤 (⋆ 𝓤 H A (Set (t .val))) (Wp 𝓤 H (𝓣 .C) (𝓣 .Λ) En body.t-3 (atReturn 𝓤 H En Owed))
+    begins : (t : Turn s n ys) → t .rows .i ≡ 0 → t .rows .zs ≡ ys → ent 𝓤 (⋆ 𝓤 H A (Set (t .val))) (Wp 𝓤 H (𝓣 .C) (𝓣 .Λ) En body.t-3 (atReturn 𝓤 H En Owed))
     begins t e d =
         qed W (Set (t .val)) ∵ exec ! (𝓣 .C) (𝓣 .Λ) En body.t-3 (atRet En Owed) $
         rewrite ! 8 (λ (k : ℕ). ‵ (fat fullShare word l₅ 0 (vint w64 k))) (sym e) refl $
         move ! (21 ∷ []) $ fsplit ! $ move ! (1 ∷ []) $ fsplit ! $ fsplit ! $ drop ! $ fsplit ! $ move ! (24 ∷ []) $ split ! $ move ! (1 ∷ []) $ split ! $ move ! (3 ∷ 4 ∷ 0 ∷ []) $ opens-slice ! tt R ys b o $
         rewrite ! 0 (λ (l : List Record). ‵ (row R fullShare l b o)) (sym d) refl $
         keep ! (0 ∷ 18 ∷ 16 ∷ 14 ∷ 12 ∷ 10 ∷ 8 ∷ 24 ∷ 22 ∷ 20 ∷ 26 ∷ 5 ∷ 7 ∷ 1 ∷ 2 ∷ 3 ∷ 27 ∷ 25 ∷ 23 ∷ 21 ∷ 19 ∷ 17 ∷ 15 ∷ 13 ∷ 11 ∷ 9 ∷ []) $
-        by ! (loops 𝓤 H A W 𝓣 En body.turn-1 Left s n ys (λ (u : Turn s n ys). ⋆ 𝓤 H A (At u)) turns t)
+        by ! (loops 𝓤 H A W 𝓣 En body.turn-1 Left (Turn s n ys) (λ (u : Turn s n ys). u .rows .left) (λ (u : Turn s n ys). ⋆ 𝓤 H A (At u)) turns t)
 
     sets-out : (c : Cursor) (w : Val) → c ≡ firstCursor → Is Cur.the-row c (w ∷ []) → ent 𝓤 (⋆ 𝓤 H A (Set w)) (Wp 𝓤 H (𝓣 .C) (𝓣 .Λ) En body.t-3 (atReturn 𝓤 H En Owed))
     sets-out c w e is = begins (start s n ys ready c w e is) refl refl
