@@ -1,1 +1,5 @@
 pub mod Numbers
+pub mod Structure
+pub mod Pictures
+pub mod FileCalls
+pub mod PictureCalls
