@@ -30,29 +30,13 @@ use Rattle.theorem_roundtrip.specs.RoundTrip as RoundTrip
 use Rattle.theorem_additions.specs.Statement as Statement
 use Rattle.theorem_additions.specs.Demand3 as Additions
 use Rattle.theorem_demands.specs.Refusals.{Refusals}
-use Rattle.theorem_demands.specs.laws.FileCalls as FileCalls
-use Rattle.theorem_demands.specs.laws.PictureCalls as PictureCalls
+use Rattle.theorem_demands.specs.laws.Refusals as Calls
 use Rattle.theorem_demands.specs.Listings as Listings
 
 -- Demand 1. Any bytes may be handed to any public call, and what it refuses with is one of the numbers that 01 gives for this call. That
 -- every call ends, stays inside what it was lent and answers by these definitions is what its proved contract says.
 pub refused-by-number : Refusals
-refused-by-number =
-    record {
-      check = FileCalls.check;
-      clean-copy = FileCalls.clean-copy;
-      record-by-number = FileCalls.record-by-number;
-      chunk-data = FileCalls.chunk-data;
-      table = FileCalls.table;
-      reader = FileCalls.reader;
-      picture-count = FileCalls.picture-count;
-      properties = PictureCalls.properties;
-      palette = PictureCalls.palette;
-      line = PictureCalls.line;
-      frame = PictureCalls.frame;
-      pack = PictureCalls.pack;
-      write = PictureCalls.write;
-    }
+refused-by-number = Calls.refusals
 
 -- Demand 2. A file is accepted exactly if it is a chunk tree and then trailing bytes, within the limits of length and nesting; and
 -- the counts that are told are the tree's.

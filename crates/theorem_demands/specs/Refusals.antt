@@ -26,7 +26,7 @@ use Rattle.ilbm_spec.specs.Rows.{lineAnswer, lineOf, frameAnswer, frameOf}
 use Rattle.byterun_pack.specs.Pack.{packNumber, packOf}
 use Rattle.write_picture.specs.Write.{writeOf}
 use Rattle.write_picture.specs.declared.WriteAnswer.the-variants.{Refused as Write-refused}
-use Rattle.theorem_demands.specs.Numbers.{structural, ofRecord, ofData, ofTable, ofCopy, ofPicture, ofLine, ofFrame, ofPacking, ofWriting, OneOf}
+use Rattle.theorem_demands.specs.Numbers.{OneOf, structural, ofRecord, ofData, ofTable, ofCopy, ofPicture, ofLine, ofFrame, ofPacking, ofWriting}
 
 -- Where a call tells numbers and no enum, as the palette's and the packer's do, 0 is for no refusal.
 pub record Refusals : Type 0 where
@@ -38,8 +38,10 @@ pub record Refusals : Type 0 where
   pub reader : (s : List ℕ) (k p : ℕ) → openingOf s ≡ Reader-refused k p → OneOf structural k p
   pub picture-count : (s : List ℕ) (k p : ℕ) → countOf s ≡ Count-refused k p → OneOf structural k p
   pub properties : (s : List ℕ) (i k p : ℕ) → pictureOf s i ≡ Picture-refused k p → OneOf ofPicture k p
-  pub palette : (s : List ℕ) (i : ℕ) (default : List ℕ) → OneOf (0 ∷ ofPicture) (paletteAnswer s i default .number) (paletteAnswer s i default .place)
+  pub palette :
+      (s : List ℕ) (i : ℕ) (default : List ℕ) → let a = paletteAnswer s i default in OneOf (0 ∷ ofPicture) (a .number) (a .place)
   pub line : (s : List ℕ) (i start room k p : ℕ) → lineAnswer (lineOf s i start room) ≡ Line-refused k p → OneOf ofLine k p
   pub frame : (s : List ℕ) (i room k p : ℕ) → frameAnswer (frameOf s i room) ≡ Frame-refused k p → OneOf ofFrame k p
   pub pack : (row : List ℕ) (room : ℕ) → OneOf (0 ∷ ofPacking) (packNumber (packOf row room)) 0
-  pub write : (b : BitmapHeader) (palette frame : List ℕ) (room k : ℕ) → writeOf b palette frame room ≡ Write-refused k → OneOf ofWriting k 0
+  pub write :
+      (b : BitmapHeader) (palette frame : List ℕ) (room k : ℕ) → writeOf b palette frame room ≡ Write-refused k → OneOf ofWriting k 0

@@ -3,3 +3,4 @@ pub mod Structure
 pub mod Pictures
 pub mod FileCalls
 pub mod PictureCalls
+pub mod Refusals

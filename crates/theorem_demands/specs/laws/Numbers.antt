@@ -10,6 +10,7 @@ use Rattle.iff_name.specs.Name.{both, either, pick}
 use Rattle.iff_tree.specs.Judge.{Found, found, refused, andThen}
 use Rattle.theorem_demands.specs.Numbers.{placed, among, OneOf}
 
+-- a result that is no refusal, or a refusal by one of these numbers
 abbrev pub Refuses : {A : Type 0} → List ℕ → Found A → Type 0
 Refuses numbers (found a) = Unit {0}
 Refuses numbers (refused k p) = OneOf numbers k p
@@ -22,11 +23,15 @@ without-place numbers k i = (i, go (among k placed))
     go true = refl
     go false = refl
 
-pub choice-refuses : {A : Type 0} (numbers : List ℕ) (b : Bool) (x y : Found A) → Refuses numbers x → Refuses numbers y → Refuses numbers (pick b x y)
+-- one of two results, as a check chooses
+pub choice-refuses :
+    {A : Type 0} (numbers : List ℕ) (b : Bool) (x y : Found A) → Refuses numbers x → Refuses numbers y → Refuses numbers (pick b x y)
 choice-refuses numbers true x y i j = i
 choice-refuses numbers false x y i j = j
 
-pub then-refuses : {A B : Type 0} (numbers : List ℕ) (x : Found A) (f : A → Found B) → Refuses numbers x → ((a : A) → Refuses numbers (f a)) → Refuses numbers (andThen x f)
+pub then-refuses :
+    {A B : Type 0} (numbers : List ℕ) (x : Found A) (f : A → Found B) → Refuses numbers x → ((a : A) → Refuses numbers (f a)) →
+    Refuses numbers (andThen x f)
 then-refuses numbers (found a) f i j = j a
 then-refuses numbers (refused k p) f i j = i
 

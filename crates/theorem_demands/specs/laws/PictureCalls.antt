@@ -40,12 +40,14 @@ picture-by (refused k p) i = i
 pub properties : (s : List ℕ) (i k p : ℕ) → pictureOf s i ≡ Picture-refused k p → OneOf ofPicture k p
 properties s i k p e = subst Picture-by e (picture-by (viewOf s i) (view-refuses s i))
 
-palette-by : (v : Viewed) (default : List ℕ) → Refuses ofPicture v → OneOf (0 ∷ ofPicture) (answerIn v default .number) (answerIn v default .place)
+palette-by :
+    (v : Viewed) (default : List ℕ) → Refuses ofPicture v → let a = answerIn v default in OneOf (0 ∷ ofPicture) (a .number) (a .place)
 unfolding within among
 palette-by (found c) default i = (refl, refl)
 palette-by (refused k p) default i = widened {A = Chunk} ofPicture (0 ∷ ofPicture) refl (refused k p) i
 
-pub palette : (s : List ℕ) (i : ℕ) (default : List ℕ) → OneOf (0 ∷ ofPicture) (paletteAnswer s i default .number) (paletteAnswer s i default .place)
+pub palette :
+    (s : List ℕ) (i : ℕ) (default : List ℕ) → let a = paletteAnswer s i default in OneOf (0 ∷ ofPicture) (a .number) (a .place)
 palette s i default = palette-by (viewOf s i) default (view-refuses s i)
 
 abbrev Line-by : LineAnswer → Type 0

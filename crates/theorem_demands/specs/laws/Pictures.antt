@@ -36,11 +36,11 @@ picture-number c = search (choice-number, header-number)
 
 judged-refuses : (c : Content) → Refuses ofPicture (judged c)
 unfolding among
-judged-refuses c = go (eqb (pictureRefusal c) 0) (picture-number c)
+judged-refuses c = go (pictureRefusal c) (eqb (pictureRefusal c) 0) (picture-number c)
   where
-    go : (b : Bool) → either b (among (pictureRefusal c) ofPicture) ≡ true → Refuses ofPicture (pick b (found c) (refused (pictureRefusal c) 0))
-    go true i = tt
-    go false i = without-place ofPicture (pictureRefusal c) i
+    go : (k : ℕ) (b : Bool) → either b (among k ofPicture) ≡ true → Refuses ofPicture (pick b (found c) (refused k 0))
+    go k true i = tt
+    go k false i = without-place ofPicture k i
 
 pick-refuses : (cs : List Content) (i : ℕ) → Refuses ofPicture (pickContent cs i)
 unfolding pickContent among
@@ -64,7 +64,9 @@ row-refuses (filled bs q) = tt
 row-refuses (over q) = (refl, refl)
 row-refuses (short q) = (refl, refl)
 
-read-refuses : {A B : Type 0} (numbers : List ℕ) (x : Read A) (f : A → ℕ → Read B) → Refuses numbers x → ((a : A) (q : ℕ) → Refuses numbers (f a q)) → Refuses numbers (thenRead x f)
+read-refuses :
+    {A B : Type 0} (numbers : List ℕ) (x : Read A) (f : A → ℕ → Read B) → Refuses numbers x → ((a : A) (q : ℕ) → Refuses numbers (f a q)) →
+    Refuses numbers (thenRead x f)
 read-refuses numbers (found (a, q)) f i j = j a q
 read-refuses numbers (refused k p) f i j = i
 
@@ -87,7 +89,9 @@ lines-refuse b body (suc lines) at =
 
 -- ---- rows asked of a picture
 
-body-refuses : (numbers : List ℕ) (rows : List ℕ → Read (List ℕ)) → OneOf numbers 25 0 → ((body : List ℕ) → Refuses numbers (rows body)) → (bodies : List (List ℕ)) → Refuses numbers (onBody bodies rows)
+body-refuses :
+    (numbers : List ℕ) (rows : List ℕ → Read (List ℕ)) → OneOf numbers 25 0 → ((body : List ℕ) → Refuses numbers (rows body)) →
+    (bodies : List (List ℕ)) → Refuses numbers (onBody bodies rows)
 body-refuses numbers rows i j [] = i
 body-refuses numbers rows i j (body ∷ others) = j body
 

@@ -42,16 +42,17 @@ unfolding headerOf among
 header-refuses levels s from w p e = search (header-or, leaf-or, group-refuses) depth 8
 
 by-header-refuses :
-    (h : Header) (s : List ℕ) (p : ℕ) (members : Kind → ℕ → Found Chunks) → HeaderRefuses h → ((k : Kind) (z : ℕ) → Refuses structural (members k z)) →
-    Refuses structural (byHeader h s p members)
+    (h : Header) (s : List ℕ) (p : ℕ) (members : Kind → ℕ → Found Chunks) → HeaderRefuses h →
+    ((k : Kind) (z : ℕ) → Refuses structural (members k z)) → Refuses structural (byHeader h s p members)
 unfolding within among
-by-header-refuses (Header-refused k) s p members i j = (among-within ofHeader structural k refl i, rw (among-within ofHeader placed k refl i) refl)
+by-header-refuses (Header-refused k) s p members i j =
+    (among-within ofHeader structural k refl i, rw (among-within ofHeader placed k refl i) refl)
 by-header-refuses (Leaf z) s p members i j = tt
 by-header-refuses (Group k z) s p members i j = search (then-refuses, j)
 
 run-refuses :
-    (chunk : Position → ℕ → ℕ → Found Chunk) → ((w : Position) (p e : ℕ) → Refuses structural (chunk w p e)) → (s : List ℕ) (fuel : ℕ) (w : Position) (p e : ℕ) →
-    Refuses structural (run chunk s fuel w p e)
+    (chunk : Position → ℕ → ℕ → Found Chunk) → ((w : Position) (p e : ℕ) → Refuses structural (chunk w p e)) →
+    (s : List ℕ) (fuel : ℕ) (w : Position) (p e : ℕ) → Refuses structural (run chunk s fuel w p e)
 unfolding run
 run-refuses chunk i s zero w p e = tt
 run-refuses chunk i s (suc fuel) w p e =
@@ -62,7 +63,7 @@ chunk-refuses : (levels : ℕ) (s : List ℕ) (from : ℕ) (w : Position) (p e :
 unfolding chunkAt among
 chunk-refuses zero s from w p e = search (by-header-refuses, header-refuses)
 chunk-refuses (suc levels) s from w p e =
-    let below : (from : ℕ) (w : Position) (p e : ℕ) → Refuses structural (chunkAt levels s from w p e) = λ from w p e. chunk-refuses levels s from w p e in
+    let below : (f : ℕ) (v : Position) (a b : ℕ) → Refuses structural (chunkAt levels s f v a b) = λ f v a b. chunk-refuses levels s f v a b in
     search (by-header-refuses, header-refuses, run-refuses, below)
 
 pub file-refuses : (s : List ℕ) → Refuses structural (readFile s)
