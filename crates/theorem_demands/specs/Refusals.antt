@@ -28,7 +28,9 @@ use Rattle.write_picture.specs.Write.{writeOf}
 use Rattle.write_picture.specs.declared.WriteAnswer.the-variants.{Refused as Write-refused}
 use Rattle.theorem_demands.specs.Numbers.{OneOf, structural, ofRecord, ofData, ofTable, ofCopy, ofPicture, ofLine, ofFrame, ofPacking, ofWriting}
 
--- Where a call tells numbers and no enum, as the palette's and the packer's do, 0 is for no refusal.
+-- The exported calls on a file or a chunk each have a line here, those on a picture's properties one together (`ilbm_header`, `ilbm_grab`,
+-- `ilbm_dest`, `ilbm_sprite`, `ilbm_view_mode`): they tell the number and the place of this answer, and 0 where it is no refusal. So do the
+-- palette's call and the packer's themselves.
 pub record Refusals : Type 0 where
   pub check : (s : List ℕ) (k p : ℕ) → checkOf s ≡ Refused k p → OneOf structural k p
   pub clean-copy : (s : List ℕ) (room k p : ℕ) → copyOf s room ≡ Copy-refused k p → OneOf ofCopy k p
