@@ -1,10 +1,10 @@
 // Writes a plane row of a BODY, plain or packed by ByteRun1.
+use byterun_copy::copy_run;
+use byterun_copy::fill_run;
 use byterun_row::Code;
 use byterun_row::RowAnswer;
 use byterun_row::code_at;
 use byterun_row::judge_row;
-use byterun_copy::copy_run;
-use byterun_copy::fill_run;
 ghost use mathlib.Core.Path.{_≡_};
 ghost use lib.ListN.{length};
 ghost use Rattle.byterun_row.specs.ByteRun.{unpackRow, plainRow, rowOf, filled, answerOf, bytesAfter, IsFull};

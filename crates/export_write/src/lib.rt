@@ -1,6 +1,6 @@
 // The exported packer and picture writer: 0 and the length of what was written, or the number of a refusal and 0.
-use ilbm_spec::BitmapHeader;
 use byterun_pack::PackAnswer;
+use ilbm_spec::BitmapHeader;
 use write_picture::WriteAnswer;
 ghost use mathlib.Core.Path.{_≡_};
 ghost use lib.ListN.{length};

@@ -1,51 +1,49 @@
-// The scan line and the frame of a picture that is not refused and has a BODY.
-use ilbm_content::Contents;
+// The scan line and the frame of a BODY by itself, by its header's numbers.
 use ilbm_scan_frame::scan_frame;
+use ilbm_scan_line::scan_row;
 use ilbm_spec::FrameAnswer;
 use ilbm_spec::LineAnswer;
-use ilbm_properties::header_of;
-use ilbm_plane_rows::Scanned;
-use ilbm_scan_line::scan_row;
 ghost use mathlib.Core.Path.{_≡_};
-ghost use Prim.Native.Nat.{_-_};
-ghost use Rattle.ilbm_members.specs.declared.Part.the-variants.{Between};
-ghost use Rattle.ilbm_properties.specs.Fields.{Judged};
-ghost use Rattle.ilbm_body_rows.specs.Lines.{LineDone, FrameDone};
+ghost use Prim.Native.Nat.{_-_, _≤_};
+ghost use lib.ListN.{length};
+ghost use Rattle.ilbm_spec.specs.Rows.{bodyLine, bodyFrame, lineAnswer, frameAnswer, bytesAfter};
 
-// A scan line of a picture whose BODY lies from a to b.
+// The colour numbers of a scan line, from a place of the BODY, and the next place; a refusal leaves the row as it was.
 pub fn body_line(
-    s: &[u8],
-    c: Contents,
-    a: usize,
-    b: usize,
+    body: &[u8],
+    w: u16,
+    planes: u8,
+    masking: u8,
+    compression: u8,
     start: usize,
     row: &mut [u8],
 ) -> LineAnswer
-    requires { ⌜ (Judged (now s) c) × (c .body ≡ Between a b) ⌝ }
-    ensures { λ r. ⌜ LineDone (now (s .entry)) c start (now (row .entry)) r (now (row .exit)) ⌝ }
+    requires { ⌜ planes ≤ 8 ⌝ }
+    ensures answer { λ r. ⌜ r ≡ lineAnswer (bodyLine (now (body .entry)) w planes masking compression start (length (now (row .entry)))) ⌝ }
+    ensures bytes { λ _. ⌜ now (row .exit) ≡ bytesAfter (bodyLine (now (body .entry)) w planes masking compression start (length (now (row .entry)))) (now (row .entry)) ⌝ }
 {
-    if b - a < start {
+    if body.len() < start {
         return LineAnswer::Refused {
             number: 29,
             place: 0,
         };
     }
-    let bmhd = c.bmhd;
-    let header = header_of(s, bmhd);
-    let w = header.w as usize;
-    if row.len() != w {
+    let width = w as usize;
+    if row.len() != width {
         return LineAnswer::Refused {
             number: 28,
             place: 0,
         };
     }
-    let planes = header.planes as usize;
-    let masked = header.masking == 1;
-    let scanned = scan_row(&s[a..b], start, w, planes, masked, header.compression, row);
-    match scanned {
-        Scanned::Next(next) => LineAnswer::Next(next),
-        Scanned::Refused { number, place } => LineAnswer::Refused { number, place },
-    }
+    scan_row(
+        body,
+        start,
+        width,
+        planes as usize,
+        masking,
+        compression,
+        row,
+    )
 }
 
 // The bytes of a BODY that are left after its rows.
@@ -55,26 +53,39 @@ fn left_over(size: usize, end: usize) -> usize
     if end <= size { size - end } else { 0 }
 }
 
-// The frame of a picture whose BODY lies from a to b.
-pub fn body_frame(s: &[u8], c: Contents, a: usize, b: usize, frame: &mut [u8]) -> FrameAnswer
-    requires { ⌜ (Judged (now s) c) × (c .body ≡ Between a b) ⌝ }
-    ensures { λ r. ⌜ FrameDone (now (s .entry)) c (now (frame .entry)) r (now (frame .exit)) ⌝ }
+// The colour numbers of all scan lines, and how many bytes of the BODY are left; a refusal leaves the frame as it was.
+pub fn body_frame(
+    body: &[u8],
+    w: u16,
+    h: u16,
+    planes: u8,
+    masking: u8,
+    compression: u8,
+    frame: &mut [u8],
+) -> FrameAnswer
+    requires { ⌜ planes ≤ 8 ⌝ }
+    ensures answer { λ r. ⌜ r ≡ frameAnswer (bodyFrame (now (body .entry)) w h planes masking compression (length (now (frame .entry)))) ⌝ }
+    ensures bytes { λ _. ⌜ now (frame .exit) ≡ bytesAfter (bodyFrame (now (body .entry)) w h planes masking compression (length (now (frame .entry)))) (now (frame .entry)) ⌝ }
 {
-    let bmhd = c.bmhd;
-    let header = header_of(s, bmhd);
-    let w = header.w as usize;
-    let h = header.h as usize;
-    if frame.len() != w * h {
+    let width = w as usize;
+    let height = h as usize;
+    if frame.len() != width * height {
         return FrameAnswer::Refused {
             number: 28,
             place: 0,
         };
     }
-    let planes = header.planes as usize;
-    let masked = header.masking == 1;
-    let scanned = scan_frame(&s[a..b], w, h, planes, masked, header.compression, frame);
+    let scanned = scan_frame(
+        body,
+        width,
+        height,
+        planes as usize,
+        masking,
+        compression,
+        frame,
+    );
     match scanned {
-        Scanned::Next(end) => FrameAnswer::Leftover(left_over(b - a, end)),
-        Scanned::Refused { number, place } => FrameAnswer::Refused { number, place },
+        LineAnswer::Next(end) => FrameAnswer::Leftover(left_over(body.len(), end)),
+        LineAnswer::Refused { number, place } => FrameAnswer::Refused { number, place },
     }
 }

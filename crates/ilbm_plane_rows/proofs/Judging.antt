@@ -6,29 +6,28 @@ use native.Mathlib.Omega.{arith}
 use Rattle.byterun_row.specs.ByteRun.{Row, filled, over, short, rowOf, answerOf}
 use Rattle.byterun_row.specs.declared.RowAnswer.{RowAnswer}
 use Rattle.byterun_row.specs.declared.RowAnswer.the-variants.{Full, Oversteps, Ends}
-use Rattle.ilbm_spec.specs.Rows.{Read, thenRead, rowRead, rowsFrom, bytesAfter}
-use Rattle.ilbm_plane_rows.specs.Scan.{scannedOf, IsRead}
-use Rattle.ilbm_plane_rows.specs.declared.Scanned.{Scanned}
+use Rattle.ilbm_spec.specs.Rows.{Read, thenRead, IsRead, rowRead, rowsFrom, lineAnswer, bytesAfter}
+use Rattle.ilbm_spec.specs.declared.LineAnswer.{LineAnswer}
 use Rattle.iff_tree.specs.Judge.{found, refused}
-use Rattle.ilbm_plane_rows.specs.declared.Scanned.the-variants.{Next, Refused as Scanned-refused}
+use Rattle.ilbm_spec.specs.declared.LineAnswer.the-variants.{Next, Refused}
 
 -- what is told of a reading settles whether it is read, and what is written
-module _ {A : Type 0} (v : Read A) (r : Scanned) (j : r ≡ scannedOf v) where
+module _ {A : Type 0} (v : Read A) (r : LineAnswer) (j : r ≡ lineAnswer v) where
   pub told-next : (q : ℕ) → r ≡ Next q → IsRead v
   told-next q d = go v (sym j ∙ d)
     where
-      go : (v : Read A) → scannedOf v ≡ Next q → IsRead v
+      go : (v : Read A) → lineAnswer v ≡ Next q → IsRead v
       go (found (a, p)) u = tt
       go (refused k p) u = let z : _≡_ {A = ℕ} 0 1 = cc in absurd (omega arith)
 
-module _ (v : Read (List ℕ)) (r : Scanned) (j : r ≡ scannedOf v) (old : List ℕ) where
-  pub told-read : (new : List ℕ) (q p : ℕ) → r ≡ Next q → v ≡ found (new, p) → (Next q ≡ scannedOf v) × (new ≡ bytesAfter v old)
+module _ (v : Read (List ℕ)) (r : LineAnswer) (j : r ≡ lineAnswer v) (old : List ℕ) where
+  pub told-read : (new : List ℕ) (q p : ℕ) → r ≡ Next q → v ≡ found (new, p) → (Next q ≡ lineAnswer v) × (new ≡ bytesAfter v old)
   told-read new q p d i = (sym d ∙ j, rw i)
 
-  pub told-refusal : (k p : ℕ) → r ≡ Scanned-refused k p → (Scanned-refused k p ≡ scannedOf v) × (old ≡ bytesAfter v old)
+  pub told-refusal : (k p : ℕ) → r ≡ Refused k p → (Refused k p ≡ lineAnswer v) × (old ≡ bytesAfter v old)
   told-refusal k p d = (sym d ∙ j, go v (sym j ∙ d))
     where
-      go : (v : Read (List ℕ)) → scannedOf v ≡ Scanned-refused k p → old ≡ bytesAfter v old
+      go : (v : Read (List ℕ)) → lineAnswer v ≡ Refused k p → old ≡ bytesAfter v old
       go (found (a, s)) u = let z : _≡_ {A = ℕ} 0 1 = cc in absurd (omega arith)
       go (refused i s) u = refl
 
@@ -36,7 +35,7 @@ module _ (v : Read (List ℕ)) (r : Scanned) (j : r ≡ scannedOf v) (old : List
 abbrev pub onward : List ℕ → Read (List (List ℕ)) → Read (List (List ℕ))
 onward bs later = thenRead later (λ rest r. found ((bs ∷ rest), r))
 
-pub told-onward : (bs : List ℕ) (later : Read (List (List ℕ))) → scannedOf (onward bs later) ≡ scannedOf later
+pub told-onward : (bs : List ℕ) (later : Read (List (List ℕ))) → lineAnswer (onward bs later) ≡ lineAnswer later
 told-onward bs (found (a, q)) = refl
 told-onward bs (refused k p) = refl
 
@@ -53,7 +52,7 @@ rows-none compression body n rows k q h = let e : rows - k ≡ 0 = omega arith i
 
 -- the rows from q on, after k of them, are told of as all the rows are
 pub record Judged (compression : ℕ) (body : List ℕ) (n rows at k q : ℕ) : Type 0 where
-  pub is : scannedOf (rowsFrom compression body n (rows - k) q) ≡ scannedOf (rowsFrom compression body n rows at)
+  pub is : lineAnswer (rowsFrom compression body n (rows - k) q) ≡ lineAnswer (rowsFrom compression body n rows at)
 
 module _ (compression : ℕ) (body : List ℕ) (n rows at : ℕ) where
   pub judged-start : Judged compression body n rows at 0 at
@@ -61,7 +60,7 @@ module _ (compression : ℕ) (body : List ℕ) (n rows at : ℕ) where
 
   module _ (k q : ℕ) (j : Judged compression body n rows at k q) where
     module _ (r : RowAnswer) (i : r ≡ answerOf (rowOf compression body q n)) (h : k < rows) where
-      first : scannedOf (thenRead (rowRead (rowOf compression body q n)) (λ bs p. onward bs (rowsFrom compression body n (rows - (k + 1)) p))) ≡ scannedOf (rowsFrom compression body n rows at)
+      first : lineAnswer (thenRead (rowRead (rowOf compression body q n)) (λ bs p. onward bs (rowsFrom compression body n (rows - (k + 1)) p))) ≡ lineAnswer (rowsFrom compression body n rows at)
       first = rw (rows-once compression body n rows k q h) at (j .is)
 
       pub judged-more : (p : ℕ) → r ≡ Full p → Judged compression body n rows at (k + 1) p
@@ -69,35 +68,35 @@ module _ (compression : ℕ) (body : List ℕ) (n rows at : ℕ) where
         where
           go :
               (w : Row) → answerOf w ≡ Full p →
-              scannedOf (thenRead (rowRead w) (λ bs p. onward bs (rowsFrom compression body n (rows - (k + 1)) p))) ≡ scannedOf (rowsFrom compression body n rows at) →
-              scannedOf (rowsFrom compression body n (rows - (k + 1)) p) ≡ scannedOf (rowsFrom compression body n rows at)
+              lineAnswer (thenRead (rowRead w) (λ bs p. onward bs (rowsFrom compression body n (rows - (k + 1)) p))) ≡ lineAnswer (rowsFrom compression body n rows at) →
+              lineAnswer (rowsFrom compression body n (rows - (k + 1)) p) ≡ lineAnswer (rowsFrom compression body n rows at)
           go (filled bs s) d f = let z : s ≡ p = cc in rw z at (sym (told-onward bs (rowsFrom compression body n (rows - (k + 1)) s)) ∙ f)
           go (over s) d f = let z : _≡_ {A = ℕ} 0 1 = cc in absurd (omega arith)
           go (short s) d f = let z : _≡_ {A = ℕ} 0 1 = cc in absurd (omega arith)
 
-      pub judged-over : (p : ℕ) → r ≡ Oversteps p → Scanned-refused 27 p ≡ scannedOf (rowsFrom compression body n rows at)
+      pub judged-over : (p : ℕ) → r ≡ Oversteps p → Refused 27 p ≡ lineAnswer (rowsFrom compression body n rows at)
       judged-over p e = go (rowOf compression body q n) (sym i ∙ e) first
         where
           go :
               (w : Row) → answerOf w ≡ Oversteps p →
-              scannedOf (thenRead (rowRead w) (λ bs p. onward bs (rowsFrom compression body n (rows - (k + 1)) p))) ≡ scannedOf (rowsFrom compression body n rows at) →
-              Scanned-refused 27 p ≡ scannedOf (rowsFrom compression body n rows at)
+              lineAnswer (thenRead (rowRead w) (λ bs p. onward bs (rowsFrom compression body n (rows - (k + 1)) p))) ≡ lineAnswer (rowsFrom compression body n rows at) →
+              Refused 27 p ≡ lineAnswer (rowsFrom compression body n rows at)
           go (filled bs s) d f = let z : _≡_ {A = ℕ} 0 1 = cc in absurd (omega arith)
           go (over s) d f = let z : s ≡ p = cc in rw z at f
           go (short s) d f = let z : _≡_ {A = ℕ} 0 1 = cc in absurd (omega arith)
 
-      pub judged-short : (p : ℕ) → r ≡ Ends p → Scanned-refused 26 p ≡ scannedOf (rowsFrom compression body n rows at)
+      pub judged-short : (p : ℕ) → r ≡ Ends p → Refused 26 p ≡ lineAnswer (rowsFrom compression body n rows at)
       judged-short p e = go (rowOf compression body q n) (sym i ∙ e) first
         where
           go :
               (w : Row) → answerOf w ≡ Ends p →
-              scannedOf (thenRead (rowRead w) (λ bs p. onward bs (rowsFrom compression body n (rows - (k + 1)) p))) ≡ scannedOf (rowsFrom compression body n rows at) →
-              Scanned-refused 26 p ≡ scannedOf (rowsFrom compression body n rows at)
+              lineAnswer (thenRead (rowRead w) (λ bs p. onward bs (rowsFrom compression body n (rows - (k + 1)) p))) ≡ lineAnswer (rowsFrom compression body n rows at) →
+              Refused 26 p ≡ lineAnswer (rowsFrom compression body n rows at)
           go (filled bs s) d f = let z : _≡_ {A = ℕ} 0 1 = cc in absurd (omega arith)
           go (over s) d f = let z : _≡_ {A = ℕ} 0 1 = cc in absurd (omega arith)
           go (short s) d f = let z : s ≡ p = cc in rw z at f
 
-    pub judged-end : rows ≤ k → Next q ≡ scannedOf (rowsFrom compression body n rows at)
+    pub judged-end : rows ≤ k → Next q ≡ lineAnswer (rowsFrom compression body n rows at)
     judged-end h = rw (rows-none compression body n rows k q h) at (j .is)
 
 pub ruleset judging = (judged-start, judged-more, judged-over, judged-short, judged-end)

@@ -3,22 +3,25 @@ use Prim.Native.Nat.{ℕ, zero, suc, _+_, _*_, _≤_}
 use mathlib.Core.Path.{_≡_, refl, ap, _∙_}
 use mathlib.Core.Bool.{Bool, true, false}
 use mathlib.Core.List.{List, _∷_}
+use lib.Dec.{eqb}
 use lib.ListN.{take, drop}
 use native.Mathlib.Nat.{mul-le-mul-right}
 use native.Mathlib.Omega.{arith}
 use Rattle.iff_name.specs.Name.{pick}
-use Rattle.ilbm_spec.specs.Rows.{rowLength, Read, thenRead, rowsFrom, coloursFrom, bytesAfter}
+use Rattle.ilbm_spec.specs.Rows.{rowLength, rowsInLine, Read, thenRead, IsRead, rowsFrom, coloursFrom, lineBy, lineAnswer, bytesAfter}
 use Rattle.ilbm_gather.specs.Buffer.{rowsIn}
-use Rattle.ilbm_plane_rows.specs.Scan.{scannedOf, IsRead, lineBy}
 use Rattle.ilbm_plane_rows.proofs.Judging.{told-next, told-read, told-refusal}
-use Rattle.ilbm_plane_rows.specs.declared.Scanned.{Scanned}
+use Rattle.ilbm_spec.specs.declared.LineAnswer.{LineAnswer}
 use Rattle.iff_tree.specs.Judge.{found, refused}
-use Rattle.ilbm_plane_rows.specs.declared.Scanned.the-variants.{Next, Refused as Scanned-refused}
+use Rattle.ilbm_spec.specs.declared.LineAnswer.the-variants.{Next, Refused}
 
 -- a line has at most nine rows, which have room in a buffer of nine times their length
-pub line-rows : (planes : ℕ) (masked : Bool) → planes ≤ 8 → planes + pick masked 1 0 ≤ 9
-line-rows planes true h = omega arith
-line-rows planes false h = omega arith
+pub line-rows : (planes masking : ℕ) → planes ≤ 8 → rowsInLine planes masking ≤ 9
+line-rows planes masking h = go (eqb masking 1)
+  where
+    go : (masked : Bool) → planes + pick masked 1 0 ≤ 9
+    go true = omega arith
+    go false = omega arith
 
 pub rows-room : (rows w n len : ℕ) → rows ≤ 9 → rowLength w ≤ n → len ≡ 9 * n → rows * rowLength w ≤ len
 rows-room rows w n len h g e = omega (arith, mul-le-mul-right {m = rows} {n = 9} (rowLength w) h)
@@ -52,26 +55,26 @@ module _ (compression : ℕ) (body : List ℕ) (w planes rows at n : ℕ) (e : n
       rw (a, rows-first n rows planes 0 buffer h, g, l)
 
   -- what was judged of the rows
-  module _ (r : Scanned) (j : r ≡ scannedOf (rowsFrom compression body n rows at)) where
+  module _ (r : LineAnswer) (j : r ≡ lineAnswer (rowsFrom compression body n rows at)) where
     pub rows-judged : (q : ℕ) → r ≡ Next q → IsRead (rowsFrom compression body (rowLength w) rows at)
     rows-judged q d = told-next (rowsFrom compression body (rowLength w) rows at) r (rw e at j) q d
 
     module _ (m : ℕ) (c : rows ≡ m) (old : List ℕ) where
-      line-told : r ≡ scannedOf (lineBy compression w planes m body at)
+      line-told : r ≡ lineAnswer (lineBy compression w planes m body at)
       line-told = rw (← c) (rw e at j ∙ go (rowsFrom compression body (rowLength w) rows at))
         where
-          go : (v : Read (List (List ℕ))) → scannedOf v ≡ scannedOf (thenRead v (λ planeRows q. found ((coloursFrom 0 w (take planes planeRows)), q)))
+          go : (v : Read (List (List ℕ))) → lineAnswer v ≡ lineAnswer (thenRead v (λ planeRows q. found ((coloursFrom 0 w (take planes planeRows)), q)))
           go (found (a, p)) = refl
           go (refused k p) = refl
 
       pub line-read :
           (new : List ℕ) (q p : ℕ) → r ≡ Next q → lineBy compression w planes rows body at ≡ found (new, p) →
-          (Next q ≡ scannedOf (lineBy compression w planes m body at)) × (new ≡ bytesAfter (lineBy compression w planes m body at) old)
+          (Next q ≡ lineAnswer (lineBy compression w planes m body at)) × (new ≡ bytesAfter (lineBy compression w planes m body at) old)
       line-read new q p d i = told-read (lineBy compression w planes m body at) r line-told old new q p d (rw c at i)
 
       pub line-refusal :
-          (k p : ℕ) → r ≡ Scanned-refused k p →
-          (Scanned-refused k p ≡ scannedOf (lineBy compression w planes m body at)) × (old ≡ bytesAfter (lineBy compression w planes m body at) old)
+          (k p : ℕ) → r ≡ Refused k p →
+          (Refused k p ≡ lineAnswer (lineBy compression w planes m body at)) × (old ≡ bytesAfter (lineBy compression w planes m body at) old)
       line-refusal k p d = told-refusal (lineBy compression w planes m body at) r line-told old k p d
 
 pub ruleset lines = (count-room, rows-fit, rows-read, line-written, rows-judged, line-read, line-refusal)

@@ -9,10 +9,10 @@ use mir.Val.{Fits}
 use native.Mathlib.Numerals.{add-one}
 use native.Mathlib.Omega.{arith}
 use Rattle.byterun_row.specs.ByteRun.{Row, filled, over, short, rowOf, IsFull}
-use Rattle.ilbm_spec.specs.Rows.{Read, thenRead, rowRead, rowsFrom}
+use Rattle.ilbm_spec.specs.Rows.{Read, thenRead, IsRead, rowRead, rowsFrom}
+use Rattle.ilbm_spec.specs.laws.Rows.{one-value, one-place}
 use Rattle.ilbm_gather.specs.Buffer.{rowsIn}
 use Rattle.ilbm_gather.proofs.Colours.{row-room}
-use Rattle.ilbm_plane_rows.specs.Scan.{IsRead}
 use Rattle.iff_tree.specs.Judge.{found, refused}
 use Rattle.ilbm_plane_rows.proofs.Judging.{onward, rows-once, rows-none}
 
@@ -99,8 +99,8 @@ module _ (compression : ℕ) (body : List ℕ) (n rows at : ℕ) where
               (v : Read (List (List ℕ))) → rowsFrom compression body n (rows - (k + 1)) p ≡ v → onward new v ≡ found ((w .left), (w .end)) →
               Written compression body n rows at (k + 1) p (take (k * n) buffer ++ (new ++ tail))
           go (found (rest, r)) u f =
-              let x : w .left ≡ new ∷ rest = cc in
-              let y : w .end ≡ r = cc in
+              let x : w .left ≡ new ∷ rest = sym (one-value f) in
+              let y : w .end ≡ r = sym (one-place f) in
               record {
                 left = rest;
                 end = r;
@@ -111,9 +111,9 @@ module _ (compression : ℕ) (body : List ℕ) (n rows at : ℕ) where
 
     pub written-end : k ≤ rows → rows ≤ k → rowsFrom compression body n rows at ≡ found ((rowsIn n rows 0 buffer), q)
     written-end a b =
-        let none : read [] q ≡ found ((w .left), (w .end)) = rw (rows-none compression body n rows k q b) at (w .to-come) in
-        let x : w .left ≡ [] = cc in
-        let y : w .end ≡ q = cc in
+        let none : _≡_ {A = Read (List (List ℕ))} (found ([], q)) (found (w .left, w .end)) = rw (rows-none compression body n rows k q b) at (w .to-come) in
+        let x : w .left ≡ [] = sym (one-value none) in
+        let y : w .end ≡ q = sym (one-place none) in
         let z : rows ≡ k = omega arith in
         let u : rowsFrom compression body n rows at ≡ found ((rowsIn n k 0 buffer ++ []), q) = rw (x, y) at (w .whole) in
         u ∙ rw (z, append-nil (rowsIn n k 0 buffer))

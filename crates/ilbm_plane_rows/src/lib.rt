@@ -1,22 +1,15 @@
 // The plane rows of a BODY: judged with no byte written, and written as a scan line once they are known to be sound.
 use byterun_row::RowAnswer;
 use byterun_row::judge_row;
-use ilbm_gather::gather;
 use byterun_unpack::write_row;
+use ilbm_gather::gather;
+use ilbm_spec::LineAnswer;
 ghost use mathlib.Core.Path.{_≡_};
 ghost use Prim.Native.Nat.{_+_, _*_, _≤_};
 ghost use lib.ListN.{length};
-ghost use Rattle.iff_name.specs.Name.{pick};
 ghost use Rattle.iff_tree.specs.Judge.{found};
-ghost use Rattle.ilbm_spec.specs.Rows.{rowLength, rowsFrom};
+ghost use Rattle.ilbm_spec.specs.Rows.{rowLength, rowsInLine, IsRead, rowsFrom, lineBy, lineAnswer};
 ghost use Rattle.ilbm_gather.specs.Buffer.{rowsIn};
-ghost use Rattle.ilbm_plane_rows.specs.Scan.{scannedOf, IsRead, lineBy};
-
-// The next place, or the number and place of a fault.
-pub enum Scanned {
-    Next(usize),
-    Refused { number: usize, place: usize },
-}
 
 // The bytes of a plane row.
 pub fn row_length(w: usize) -> usize
@@ -27,16 +20,16 @@ pub fn row_length(w: usize) -> usize
 }
 
 // The rows of a scan line: one for each plane, and the mask row.
-pub fn row_count(planes: usize, masked: bool) -> usize
+pub fn row_count(planes: usize, masking: u8) -> usize
     requires { ⌜ planes ≤ 8 ⌝ }
-    ensures { λ r. ⌜ (r ≡ planes + pick masked 1 0) × (planes ≤ r) × (r ≤ 9) ⌝ }
+    ensures { λ r. ⌜ (r ≡ rowsInLine planes masking) × (planes ≤ r) × (r ≤ 9) ⌝ }
 {
-    if masked { planes + 1 } else { planes }
+    if masking == 1 { planes + 1 } else { planes }
 }
 
 // Steps from row to row, with no byte written.
-pub fn judge_rows(body: &[u8], at: usize, n: usize, rows: usize, compression: u8) -> Scanned
-    ensures { λ r. ⌜ r ≡ scannedOf (rowsFrom compression (now (body .entry)) n rows at) ⌝ }
+pub fn judge_rows(body: &[u8], at: usize, n: usize, rows: usize, compression: u8) -> LineAnswer
+    ensures { λ r. ⌜ r ≡ lineAnswer (rowsFrom compression (now (body .entry)) n rows at) ⌝ }
 {
     let mut q = at;
     let mut k = 0;
@@ -48,14 +41,14 @@ pub fn judge_rows(body: &[u8], at: usize, n: usize, rows: usize, compression: u8
                 k = k + 1;
             }
             RowAnswer::Oversteps(place) => {
-                return Scanned::Refused { number: 27, place };
+                return LineAnswer::Refused { number: 27, place };
             }
             RowAnswer::Ends(place) => {
-                return Scanned::Refused { number: 26, place };
+                return LineAnswer::Refused { number: 26, place };
             }
         }
     }
-    Scanned::Next(q)
+    LineAnswer::Next(q)
 }
 
 // Writes rows that are known to be sound into the buffer, one after the other, and returns the place after them.

@@ -17,7 +17,7 @@ use Rattle.ilbm_find.specs.declared.View.the-variants.{Seen, Refused as View-re
 use Rattle.ilbm_find.specs.Seen.{ViewIs}
 use Rattle.ilbm_properties.specs.Fields.{Judged}
 use Rattle.iff_tree.specs.Judge.{refused}
-use Rattle.ilbm_body_rows.specs.Lines.{LineDone, FrameDone}
+use Rattle.ilbm_rows.specs.Lines.{LineDone, FrameDone}
 
 no-body : (s : List ℕ) (bodies : List (List ℕ)) → Shows s Nothing (firstOf bodies) → bodies ≡ []
 no-body s [] w = refl
@@ -26,11 +26,11 @@ no-body s (d ∷ ds) w = absurd w
 module _ (s : List ℕ) (c : Contents) (i : c .body ≡ Nothing) where
   pub line-25 : (start : ℕ) (old : List ℕ) → LineDone s c start old (Refused 25 0) old
   line-25 start old =
-      record { told = λ x k. rw (no-body s (x .bodies) (rw i at (k .body))); row = λ x k. rw (no-body s (x .bodies) (rw i at (k .body))) }
+      record { answer = λ x k. rw (no-body s (x .bodies) (rw i at (k .body))); row = λ x k. rw (no-body s (x .bodies) (rw i at (k .body))) }
 
   pub frame-25 : (old : List ℕ) → FrameDone s c old (Frame-refused 25 0) old
   frame-25 old =
-      record { told = λ x k. rw (no-body s (x .bodies) (rw i at (k .body))); frame = λ x k. rw (no-body s (x .bodies) (rw i at (k .body))) }
+      record { answer = λ x k. rw (no-body s (x .bodies) (rw i at (k .body))); frame = λ x k. rw (no-body s (x .bodies) (rw i at (k .body))) }
 
 -- from the view to the answers
 module _ (s : List ℕ) (i : ℕ) (v : View) (w : ViewIs s v (viewOf s i)) where

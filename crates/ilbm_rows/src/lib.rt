@@ -2,16 +2,17 @@
 use ilbm_body_rows::body_frame;
 use ilbm_body_rows::body_line;
 use ilbm_content::Contents;
-use ilbm_spec::FrameAnswer;
-use ilbm_spec::LineAnswer;
-use ilbm_members::Part;
 use ilbm_find::View;
 use ilbm_find::view_picture;
+use ilbm_members::Part;
+use ilbm_properties::header_of;
+use ilbm_spec::FrameAnswer;
+use ilbm_spec::LineAnswer;
 ghost use mathlib.Core.Path.{_≡_};
 ghost use lib.ListN.{length};
 ghost use Rattle.ilbm_spec.specs.Rows.{lineOf, frameOf, lineAnswer, frameAnswer, bytesAfter};
 ghost use Rattle.ilbm_properties.specs.Fields.{Judged};
-ghost use Rattle.ilbm_body_rows.specs.Lines.{LineDone, FrameDone};
+ghost use Rattle.ilbm_rows.specs.Lines.{LineDone, FrameDone};
 
 // A scan line of a picture that is not refused.
 fn picture_line(s: &[u8], c: Contents, start: usize, row: &mut [u8]) -> LineAnswer
@@ -24,7 +25,19 @@ fn picture_line(s: &[u8], c: Contents, start: usize, row: &mut [u8]) -> LineAnsw
             number: 25,
             place: 0,
         },
-        Part::Between(a, b) => body_line(s, c, a, b, start, row),
+        Part::Between(a, b) => {
+            let bmhd = c.bmhd;
+            let header = header_of(s, bmhd);
+            body_line(
+                &s[a..b],
+                header.w,
+                header.planes,
+                header.masking,
+                header.compression,
+                start,
+                row,
+            )
+        }
     }
 }
 
@@ -51,7 +64,19 @@ fn picture_frame(s: &[u8], c: Contents, frame: &mut [u8]) -> FrameAnswer
             number: 25,
             place: 0,
         },
-        Part::Between(a, b) => body_frame(s, c, a, b, frame),
+        Part::Between(a, b) => {
+            let bmhd = c.bmhd;
+            let header = header_of(s, bmhd);
+            body_frame(
+                &s[a..b],
+                header.w,
+                header.h,
+                header.planes,
+                header.masking,
+                header.compression,
+                frame,
+            )
+        }
     }
 }
 

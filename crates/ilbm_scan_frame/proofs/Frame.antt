@@ -8,60 +8,60 @@ use mir.Syntax.{w64}
 use mir.Val.{Fits}
 use native.Mathlib.Nat.{zero-mul, suc-mul, add-mul, one-mul, mul-comm, mul-le-mul-left}
 use native.Mathlib.Omega.{arith}
-use Rattle.ilbm_spec.specs.Rows.{rowLength, Read, thenRead, rowRead, rowsFrom, coloursFrom, bytesAfter}
+use Rattle.ilbm_spec.specs.Rows.{rowLength, Read, thenRead, IsRead, rowRead, rowsFrom, coloursFrom, lineBy, linesBy, lineAnswer, bytesAfter}
+use Rattle.ilbm_spec.specs.laws.Rows.{one-value, one-place}
 use Rattle.byterun_row.specs.ByteRun.{rowOf}
 use Rattle.ilbm_gather.proofs.Colours.{row-room}
-use Rattle.ilbm_plane_rows.specs.Scan.{scannedOf, IsRead, lineBy, linesBy}
-use Rattle.ilbm_plane_rows.specs.declared.Scanned.{Scanned}
-use Rattle.ilbm_plane_rows.specs.declared.Scanned.the-variants.{Next, Refused as Scanned-refused}
+use Rattle.ilbm_spec.specs.declared.LineAnswer.{LineAnswer}
+use Rattle.ilbm_spec.specs.declared.LineAnswer.the-variants.{Next, Refused}
 use Rattle.iff_tree.specs.Judge.{found, refused}
 use Rattle.ilbm_plane_rows.proofs.Judging.{onward, told-onward, told-next, told-read, told-refusal}
 
 -- a + b rows are a rows, and then b
 rows-add :
     (compression : ℕ) (body : List ℕ) (n a b at : ℕ) →
-    scannedOf (rowsFrom compression body n (a + b) at) ≡ scannedOf (thenRead (rowsFrom compression body n a at) (λ rs q. rowsFrom compression body n b q))
+    lineAnswer (rowsFrom compression body n (a + b) at) ≡ lineAnswer (thenRead (rowsFrom compression body n a at) (λ rs q. rowsFrom compression body n b q))
 unfolding rowsFrom
 rows-add compression body n zero b at = let e : 0 + b ≡ b = omega arith in rw e
 rows-add compression body n (suc a) b at =
     let e : suc a + b ≡ suc (a + b) = omega arith in
     rw e (go (λ q. rows-add compression body n a b q) (rowRead (rowOf compression body at n)))
   where
-    past : (bs : List ℕ) (v : Read (List (List ℕ))) → scannedOf (thenRead (onward bs v) (λ rs q. rowsFrom compression body n b q)) ≡ scannedOf (thenRead v (λ rs q. rowsFrom compression body n b q))
+    past : (bs : List ℕ) (v : Read (List (List ℕ))) → lineAnswer (thenRead (onward bs v) (λ rs q. rowsFrom compression body n b q)) ≡ lineAnswer (thenRead v (λ rs q. rowsFrom compression body n b q))
     past bs (found (rs, q)) = refl
     past bs (refused k p) = refl
 
     go :
-        ((q : ℕ) → scannedOf (rowsFrom compression body n (a + b) q) ≡ scannedOf (thenRead (rowsFrom compression body n a q) (λ rs q. rowsFrom compression body n b q))) →
+        ((q : ℕ) → lineAnswer (rowsFrom compression body n (a + b) q) ≡ lineAnswer (thenRead (rowsFrom compression body n a q) (λ rs q. rowsFrom compression body n b q))) →
         (v : Read (List ℕ)) →
-        scannedOf (thenRead v (λ bs q. onward bs (rowsFrom compression body n (a + b) q)))
-        ≡ scannedOf (thenRead (thenRead v (λ bs q. onward bs (rowsFrom compression body n a q))) (λ rs q. rowsFrom compression body n b q))
+        lineAnswer (thenRead v (λ bs q. onward bs (rowsFrom compression body n (a + b) q)))
+        ≡ lineAnswer (thenRead (thenRead v (λ bs q. onward bs (rowsFrom compression body n a q))) (λ rs q. rowsFrom compression body n b q))
     go ih (found (bs, q)) = told-onward bs (rowsFrom compression body n (a + b) q) ∙ ih q ∙ sym (past bs (rowsFrom compression body n a q))
     go ih (refused k p) = refl
 
 module _ (compression w planes rows : ℕ) (body : List ℕ) where
   -- the lines from a place are told of as their rows are
-  lines-told : (h at : ℕ) → scannedOf (rowsFrom compression body (rowLength w) (h * rows) at) ≡ scannedOf (linesBy compression w planes rows body h at)
+  lines-told : (h at : ℕ) → lineAnswer (rowsFrom compression body (rowLength w) (h * rows) at) ≡ lineAnswer (linesBy compression w planes rows body h at)
   unfolding rowsFrom linesBy
   lines-told zero at = rw (zero-mul rows)
   lines-told (suc h) at =
       let e : suc h * rows ≡ rows + h * rows = omega (arith, suc-mul h rows) in
       rw e (rows-add compression body (rowLength w) rows (h * rows) at ∙ go (λ q. lines-told h q) (rowsFrom compression body (rowLength w) rows at))
     where
-      past : (cs : List ℕ) (v : Read (List ℕ)) → scannedOf v ≡ scannedOf (thenRead v (λ rest r. found ((cs ++ rest), r)))
+      past : (cs : List ℕ) (v : Read (List ℕ)) → lineAnswer v ≡ lineAnswer (thenRead v (λ rest r. found ((cs ++ rest), r)))
       past cs (found (rest, r)) = refl
       past cs (refused k p) = refl
 
       go :
-          ((q : ℕ) → scannedOf (rowsFrom compression body (rowLength w) (h * rows) q) ≡ scannedOf (linesBy compression w planes rows body h q)) → (v : Read (List (List ℕ))) →
-          scannedOf (thenRead v (λ rs q. rowsFrom compression body (rowLength w) (h * rows) q))
-          ≡ scannedOf (thenRead (thenRead v (λ rs q. found ((coloursFrom 0 w (take planes rs)), q))) (λ cs q. thenRead (linesBy compression w planes rows body h q) (λ rest r. found ((cs ++ rest), r))))
+          ((q : ℕ) → lineAnswer (rowsFrom compression body (rowLength w) (h * rows) q) ≡ lineAnswer (linesBy compression w planes rows body h q)) → (v : Read (List (List ℕ))) →
+          lineAnswer (thenRead v (λ rs q. rowsFrom compression body (rowLength w) (h * rows) q))
+          ≡ lineAnswer (thenRead (thenRead v (λ rs q. found ((coloursFrom 0 w (take planes rs)), q))) (λ cs q. thenRead (linesBy compression w planes rows body h q) (λ rest r. found ((cs ++ rest), r))))
       go ih (found (rs, q)) = ih q ∙ past (coloursFrom 0 w (take planes rs)) (linesBy compression w planes rows body h q)
       go ih (refused k p) = refl
 
   -- what was judged of a frame's rows
-  module _ (h n : ℕ) (e : n ≡ rowLength w) (r : Scanned) (j : r ≡ scannedOf (rowsFrom compression body n (h * rows) 0)) where
-    frame-told : r ≡ scannedOf (linesBy compression w planes rows body h 0)
+  module _ (h n : ℕ) (e : n ≡ rowLength w) (r : LineAnswer) (j : r ≡ lineAnswer (rowsFrom compression body n (h * rows) 0)) where
+    frame-told : r ≡ lineAnswer (linesBy compression w planes rows body h 0)
     frame-told = rw e at j ∙ lines-told h 0
 
     pub frame-judged : (q : ℕ) → r ≡ Next q → IsRead (linesBy compression w planes rows body h 0)
@@ -70,12 +70,12 @@ module _ (compression w planes rows : ℕ) (body : List ℕ) where
     module _ (m : ℕ) (c : rows ≡ m) (old : List ℕ) where
       pub frame-read :
           (new : List ℕ) (q p : ℕ) → r ≡ Next q → linesBy compression w planes rows body h 0 ≡ found (new, p) →
-          (Next q ≡ scannedOf (linesBy compression w planes m body h 0)) × (new ≡ bytesAfter (linesBy compression w planes m body h 0) old)
+          (Next q ≡ lineAnswer (linesBy compression w planes m body h 0)) × (new ≡ bytesAfter (linesBy compression w planes m body h 0) old)
       frame-read new q p d i = rw (← c) (told-read (linesBy compression w planes rows body h 0) r frame-told old new q p d i)
 
       pub frame-refusal :
-          (k p : ℕ) → r ≡ Scanned-refused k p →
-          (Scanned-refused k p ≡ scannedOf (linesBy compression w planes m body h 0)) × (old ≡ bytesAfter (linesBy compression w planes m body h 0) old)
+          (k p : ℕ) → r ≡ Refused k p →
+          (Refused k p ≡ lineAnswer (linesBy compression w planes m body h 0)) × (old ≡ bytesAfter (linesBy compression w planes m body h 0) old)
       frame-refusal k p d = rw (← c) (told-refusal (linesBy compression w planes rows body h 0) r frame-told old k p d)
 
   -- where lines are left, the first of them is read, and then the others
@@ -153,8 +153,8 @@ module _ (compression w planes rows : ℕ) (body : List ℕ) (h : ℕ) where
               (v : Read (List ℕ)) → linesBy compression w planes rows body (h - (y + 1)) p ≡ v → thenRead v (λ rest r. found ((new ++ rest), r)) ≡ found ((d .left), (d .end)) →
               Drawn compression w planes rows body h (y + 1) p (take (y * w) frame ++ (new ++ tail))
           go (found (rest, r)) u f =
-              let x : d .left ≡ new ++ rest = cc in
-              let z : d .end ≡ r = cc in
+              let x : d .left ≡ new ++ rest = sym (one-value f) in
+              let z : d .end ≡ r = sym (one-place f) in
               record {
                 left = rest;
                 end = r;
@@ -165,9 +165,9 @@ module _ (compression w planes rows : ℕ) (body : List ℕ) (h : ℕ) where
 
     pub drawn-end : y ≤ h → h ≤ y → length frame ≡ w * h → linesBy compression w planes rows body h 0 ≡ found (frame, q)
     drawn-end a b l =
-        let none : read [] q ≡ found ((d .left), (d .end)) = rw (lines-none compression w planes rows body h y q b) at (d .to-come) in
-        let x : d .left ≡ [] = cc in
-        let z : d .end ≡ q = cc in
+        let none : _≡_ {A = Read (List ℕ)} (found ([], q)) (found (d .left, d .end)) = rw (lines-none compression w planes rows body h y q b) at (d .to-come) in
+        let x : d .left ≡ [] = sym (one-value none) in
+        let z : d .end ≡ q = sym (one-place none) in
         let e : y ≡ h = omega arith in
         let u : length frame ≤ y * w = rw e (omega (arith, mul-comm w h)) in
         let v : linesBy compression w planes rows body h 0 ≡ found ((take (y * w) frame ++ []), q) = rw (x, z) at (d .whole) in

@@ -1,16 +1,14 @@
 // A frame of a BODY: every plane row is judged before the first byte is written.
-use ilbm_plane_rows::Scanned;
 use ilbm_plane_rows::judge_rows;
 use ilbm_plane_rows::row_count;
 use ilbm_plane_rows::row_length;
 use ilbm_plane_rows::write_line;
+use ilbm_spec::LineAnswer;
 ghost use mathlib.Core.Path.{_≡_};
 ghost use Prim.Native.Nat.{_+_, _*_, _≤_};
 ghost use lib.ListN.{length};
-ghost use Rattle.iff_name.specs.Name.{pick};
 ghost use Rattle.iff_tree.specs.Judge.{found};
-ghost use Rattle.ilbm_spec.specs.Rows.{rowLength, bytesAfter};
-ghost use Rattle.ilbm_plane_rows.specs.Scan.{scannedOf, IsRead, linesBy};
+ghost use Rattle.ilbm_spec.specs.Rows.{rowLength, rowsInLine, IsRead, linesBy, lineAnswer, bytesAfter};
 
 // Writes scan lines that are known to be sound, one after the other, and returns the place after them.
 fn write_lines(
@@ -54,24 +52,24 @@ pub fn scan_frame(
     w: usize,
     h: usize,
     planes: usize,
-    masked: bool,
+    masking: u8,
     compression: u8,
     frame: &mut [u8],
-) -> Scanned
+) -> LineAnswer
     requires { ⌜ (w ≤ 65535) × (h ≤ 65535) × (planes ≤ 8) ⌝ }
     requires { ⌜ length (now frame) ≡ w * h ⌝ }
-    ensures is { λ r. ⌜ r ≡ scannedOf (linesBy compression w planes (planes + pick masked 1 0) (now (body .entry)) h 0) ⌝ }
-    ensures bytes { λ _. ⌜ now (frame .exit) ≡ bytesAfter (linesBy compression w planes (planes + pick masked 1 0) (now (body .entry)) h 0) (now (frame .entry)) ⌝ }
+    ensures is { λ r. ⌜ r ≡ lineAnswer (linesBy compression w planes (rowsInLine planes masking) (now (body .entry)) h 0) ⌝ }
+    ensures bytes { λ _. ⌜ now (frame .exit) ≡ bytesAfter (linesBy compression w planes (rowsInLine planes masking) (now (body .entry)) h 0) (now (frame .entry)) ⌝ }
 {
     let n = row_length(w);
-    let rows = row_count(planes, masked);
+    let rows = row_count(planes, masking);
     let judged = judge_rows(body, 0, n, h * rows, compression);
     match judged {
-        Scanned::Next(end) => {
+        LineAnswer::Next(end) => {
             let mut buffer = [0u8; 73728];
             write_lines(body, w, h, planes, rows, compression, &mut buffer, frame);
-            Scanned::Next(end)
+            LineAnswer::Next(end)
         }
-        Scanned::Refused { number, place } => Scanned::Refused { number, place },
+        LineAnswer::Refused { number, place } => LineAnswer::Refused { number, place },
     }
 }

@@ -19,8 +19,8 @@ abbrev pub rowLength : ℕ → ℕ
 rowLength w = 2 * ((w + 15) / 16)
 
 -- "A scan line is one row for each plane, plane 0 first, then a mask row if masking is 1"
-abbrev pub rowsInLine : BitmapHeader → ℕ
-rowsInLine b = b .planes + pick (eqb (b .masking) 1) 1 0
+abbrev pub rowsInLine : ℕ → ℕ → ℕ
+rowsInLine planes masking = planes + pick (eqb masking 1) 1 0
 
 -- What reading comes to: a value and the next place, or the number and place of a refusal.
 abbrev pub Read : Type 0 → Type 0
@@ -29,6 +29,11 @@ Read A = Found (A × ℕ)
 abbrev pub thenRead : {A B : Type 0} → Read A → (A → ℕ → Read B) → Read B
 thenRead (found (a, q)) f = f a q
 thenRead (refused k p) f = refused k p
+
+-- what is read with no refusal
+abbrev pub IsRead : {A : Type 0} → Read A → Type 0
+IsRead (found (a, q)) = Unit {0}
+IsRead (refused k p) = ⊥
 
 -- a plane row: 27 where a copy or repeat oversteps it, 26 where the BODY ends before it is full
 abbrev pub rowRead : Row → Read (List ℕ)
@@ -57,18 +62,38 @@ unfoldable pub coloursFrom : ℕ → ℕ → List (List ℕ) → List ℕ
 coloursFrom x zero planes = []
 coloursFrom x (suc n) planes = colourBy 1 x planes ∷ coloursFrom (suc x) n planes
 
--- A scan line of a picture with this header, from a place of its BODY: the colour numbers and the next place. The mask row "must be
--- sound, and is stepped over".
-abbrev pub lineFrom : BitmapHeader → List ℕ → ℕ → Read (List ℕ)
-lineFrom b body at =
-    thenRead (rowsFrom (b .compression) body (rowLength (b .w)) (rowsInLine b) at) (λ rows q.
-    found (coloursFrom 0 (b .w) (take (b .planes) rows), q))
+-- A scan line of so many rows, from a place of the BODY: the colour numbers and the next place. The mask row "must be sound, and is
+-- stepped over".
+abbrev pub lineBy : ℕ → ℕ → ℕ → ℕ → List ℕ → ℕ → Read (List ℕ)
+lineBy compression w planes rows body at =
+    thenRead (rowsFrom compression body (rowLength w) rows at) (λ planeRows q. found (coloursFrom 0 w (take planes planeRows), q))
 
 -- so many scan lines, one after the other
-unfoldable pub linesFrom : BitmapHeader → List ℕ → ℕ → ℕ → Read (List ℕ)
-linesFrom b body zero at = found ([], at)
-linesFrom b body (suc lines) at =
-    thenRead (lineFrom b body at) (λ cs q. thenRead (linesFrom b body lines q) (λ rest r. found ((cs ++ rest), r)))
+unfoldable pub linesBy : ℕ → ℕ → ℕ → ℕ → List ℕ → ℕ → ℕ → Read (List ℕ)
+linesBy compression w planes rows body zero at = found ([], at)
+linesBy compression w planes rows body (suc lines) at =
+    thenRead (lineBy compression w planes rows body at) (λ cs q.
+    thenRead (linesBy compression w planes rows body lines q) (λ rest r. found ((cs ++ rest), r)))
+
+-- "with the leftover BODY bytes counted": of a BODY of n bytes, instead of the place after the last line
+abbrev pub leftover : ℕ → Read (List ℕ) → Read (List ℕ)
+leftover n (found (cs, q)) = found (cs, n - q)
+leftover n (refused k p) = refused k p
+
+-- A scan line of a BODY, by its header's numbers, for a lent row of `room` bytes. 29: "start place beyond the BODY's end"; 28: "lent row
+-- not exactly w bytes"; then 27 and 26. "A scan line is read from a place in the BODY and returns the next place".
+abbrev pub bodyLine : List ℕ → ℕ → ℕ → ℕ → ℕ → ℕ → ℕ → Read (List ℕ)
+bodyLine body w planes masking compression start room =
+    pick (ltb (length body) start) (refused 29 0)
+    (pick (not (eqb room w)) (refused 28 0)
+    (lineBy compression w planes (rowsInLine planes masking) body start))
+
+-- A frame likewise. 28: "lent frame not w times h"; then 27 and 26. "a whole frame is h scan lines from place 0, with the leftover BODY
+-- bytes counted"
+abbrev pub bodyFrame : List ℕ → ℕ → ℕ → ℕ → ℕ → ℕ → ℕ → Read (List ℕ)
+bodyFrame body w h planes masking compression room =
+    pick (not (eqb room (w * h))) (refused 28 0)
+    (leftover (length body) (linesBy compression w planes (rowsInLine planes masking) body h 0))
 
 -- Rows are asked of a picture: 25 for no BODY, and otherwise what `rows` says of its header and its BODY.
 abbrev pub onBody : List (List ℕ) → (List ℕ → Read (List ℕ)) → Read (List ℕ)
@@ -79,29 +104,19 @@ abbrev pub askRows : Viewed → (BitmapHeader → List ℕ → Read (List ℕ)) 
 askRows (found c) rows = onBody (c .bodies) (λ body. rows (headerIn (dataOf (c .bmhd))) body)
 askRows (refused k p) rows = refused k p
 
--- 29: "start place beyond the BODY's end"; 28: "lent row not exactly w bytes"
 abbrev pub lineRead : Viewed → ℕ → ℕ → Read (List ℕ)
-lineRead v start room =
-    askRows v (λ b body.
-    pick (ltb (length body) start) (refused 29 0)
-    (pick (not (eqb room (b .w))) (refused 28 0)
-    (lineFrom b body start)))
-
--- "a whole frame is h scan lines from place 0, with the leftover BODY bytes counted"; 28: "lent frame not w times h". The place
--- after the last line becomes the count of what is left.
-abbrev pub leftover : ℕ → Read (List ℕ) → Read (List ℕ)
-leftover n (found (cs, q)) = found (cs, (n - q))
-leftover n (refused k p) = refused k p
+lineRead v start room = askRows v (λ b body. bodyLine body (b .w) (b .planes) (b .masking) (b .compression) start room)
 
 abbrev pub frameRead : Viewed → ℕ → Read (List ℕ)
-frameRead v room =
-    askRows v (λ b body.
-    pick (not (eqb room (b .w * b .h))) (refused 28 0)
-    (leftover (length body) (linesFrom b body (b .h) 0)))
+frameRead v room = askRows v (λ b body. bodyFrame body (b .w) (b .h) (b .planes) (b .masking) (b .compression) room)
+
+-- a scan line of a BODY with this header
+abbrev pub lineFrom : BitmapHeader → List ℕ → ℕ → Read (List ℕ)
+lineFrom b body at = lineBy (b .compression) (b .w) (b .planes) (rowsInLine (b .planes) (b .masking)) body at
 
 -- what is told, and what stands in the lent row or frame afterwards: a refusal changes nothing
-abbrev pub lineAnswer : Read (List ℕ) → LineAnswer
-lineAnswer (found (cs, q)) = Next q
+abbrev pub lineAnswer : {A : Type 0} → Read A → LineAnswer
+lineAnswer (found (a, q)) = Next q
 lineAnswer (refused k p) = Refused k p
 
 abbrev pub frameAnswer : Read (List ℕ) → FrameAnswer

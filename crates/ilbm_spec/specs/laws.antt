@@ -2,3 +2,4 @@ pub mod Ignored
 pub mod Moved
 pub mod Palette
 pub mod Places
+pub mod Rows

@@ -14,7 +14,7 @@ use Rattle.ilbm_spec.specs.declared.BitmapHeader.{BitmapHeader}
 use Rattle.ilbm_spec.specs.declared.PictureAnswer.the-variants.{Shown}
 use Rattle.ilbm_spec.specs.Contents.{contentsOf}
 use Rattle.ilbm_spec.specs.Pictures.{Viewed, viewOf, pickContent, pictureAnswer, pictureOf, paletteBytes, paletteOf}
-use Rattle.ilbm_spec.specs.Rows.{frameRead, linesFrom, frameOf}
+use Rattle.ilbm_spec.specs.Rows.{rowsInLine, linesBy, frameRead, frameOf}
 use Rattle.write_picture.specs.declared.WriteAnswer.{WriteAnswer}
 use Rattle.write_picture.specs.declared.WriteAnswer.the-variants.{Written}
 use Rattle.write_body.specs.Body.{bodyLines, bodyBytes}
@@ -51,7 +51,9 @@ module _ (b : BitmapHeader) (palette frame : List ℕ) (room n : ℕ) (range : I
   unfolding pickContent
   no-more i = rw (file-read b palette frame (may .short), one-content b palette frame)
 
-  lines-read : linesFrom (withoutPad b) (bodyBytes b frame) (b .h) 0 ≡ found (frame, (length (bodyBytes b frame)))
+  lines-read :
+      linesBy (b .compression) (b .w) (b .planes) (rowsInLine (b .planes) (b .masking)) (bodyBytes b frame) (b .h) 0
+      ≡ found (frame, (length (bodyBytes b frame)))
   lines-read =
       let e : length frame ≡ b .h * b .w = may .whole ∙ mul-comm (b .w) (b .h) in
       let all = lines-back (withoutPad b) (may .unmasked) (b .h) frame [] [] e (may .colours) in

@@ -1,6 +1,7 @@
 // The bytes of one picture as a FORM ILBM, put into a buffer part by part.
-use write_body::put_body;
 use ilbm_spec::BitmapHeader;
+use write_body::body_len;
+use write_body::put_body;
 ghost use mathlib.Core.Path.{_≡_};
 ghost use Prim.Native.Nat.{_+_, _*_, _/_, _%_, _≤_, _<_};
 ghost use lib.ListN.{length, replicate};
@@ -112,7 +113,7 @@ fn put_pad(n: usize, out: &mut [u8], at: usize)
 }
 
 // The length of CMAP for a palette of so many bytes.
-pub fn palette_size(n: usize) -> usize
+fn palette_size(n: usize) -> usize
     requires { ⌜ n ≤ 768 ⌝ }
     ensures { λ r. ⌜ r ≡ paletteSize n ⌝ }
 {
@@ -133,6 +134,23 @@ fn put_palette(palette: &[u8], out: &mut [u8])
         byterun_copy::copy_run(palette, 0, out, 48, n);
         put_pad(n, out, 48 + n);
     }
+}
+
+// The lengths of BODY's data and of the whole file.
+pub struct FileSizes {
+    pub body: usize,
+    pub file: usize,
+}
+
+// The lengths of the file that is to be written, before a byte of it is.
+pub fn file_sizes(b: BitmapHeader, palette: &[u8], frame: &[u8]) -> FileSizes
+    requires { ⌜ (b .planes ≤ 8) × (length (now palette) ≤ 768) × (length (now frame) ≡ b .h * b .w) ⌝ }
+    ensures body { λ r. ⌜ r .body ≡ length (bodyBytes b (now (frame .entry))) ⌝ }
+    ensures file { λ r. ⌜ r .file ≡ length (pictureFile b (now (palette .entry)) (now (frame .entry))) ⌝ }
+{
+    let body = body_len(b, frame);
+    let file = 48 + palette_size(palette.len()) + body + body % 2;
+    FileSizes { body, file }
 }
 
 // Writes the file, whose BODY has so many bytes, to the start of out.

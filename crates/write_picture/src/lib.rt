@@ -1,7 +1,6 @@
 // The picture writer: the length is settled before a byte is written.
-use write_body::body_len;
 use ilbm_spec::BitmapHeader;
-use write_form::palette_size;
+use write_form::file_sizes;
 use write_form::put_file;
 ghost use mathlib.Core.Path.{_≡_};
 ghost use Prim.Native.Nat.{_^_, _≤_};
@@ -100,14 +99,14 @@ pub fn write_picture(
     if colour_over(power(header.planes as usize), frame) {
         return WriteAnswer::Refused(34);
     }
-    let body = body_len(header, frame);
-    let size = 48 + palette_size(palette.len()) + body + body % 2;
+    let sizes = file_sizes(header, palette, frame);
+    let size = sizes.file;
     if 16777216 < size {
         return WriteAnswer::Refused(35);
     }
     if out.len() < size {
         return WriteAnswer::Refused(32);
     }
-    put_file(header, palette, frame, body, out);
+    put_file(header, palette, frame, sizes.body, out);
     WriteAnswer::Written(size)
 }

@@ -13,7 +13,7 @@ slice-aggregate-scan-row-in c = search needs
 scan-row-in-requires : tie.Need-scan-row-in-requires
 scan-row-in-requires c κs =
     let s = c .before .before .before .before .before .args in
-    (search needs, (rows-room _ (s .w) 512 _ (line-rows (s .planes) (s .masked) (search needs)) (omega arith) (length-replicate {A = ℕ} 4608 0), search needs))
+    (search needs, (rows-room _ (s .w) 512 _ (line-rows (s .planes) (s .masking) (search needs)) (omega arith) (length-replicate {A = ℕ} 4608 0), search needs))
 
 slice-aggregate-scan-row-in-2 : tie.Need-slice-aggregate-scan-row-in-2
 slice-aggregate-scan-row-in-2 c = search needs
@@ -21,7 +21,7 @@ slice-aggregate-scan-row-in-2 c = search needs
 scan-row-in-requires-2 : tie.Need-scan-row-in-requires-2
 scan-row-in-requires-2 c κs =
     let s = c .before .before .before .before .before .args in
-    (search needs, (rows-room _ (s .w) 8192 _ (line-rows (s .planes) (s .masked) (search needs)) (omega arith) (length-replicate {A = ℕ} 73728 0), search needs))
+    (search needs, (rows-room _ (s .w) 8192 _ (line-rows (s .planes) (s .masking) (search needs)) (omega arith) (length-replicate {A = ℕ} 73728 0), search needs))
 
 same-length : tie.Need-same-length
 same-length c = c .before .before .before .scan-row-in .kept .1 .1 .1 .1 .1 .1 .1 .0

@@ -13,7 +13,7 @@ use Rattle.byterun_pack.specs.Written.{writtenRow}
 use Rattle.byterun_pack.specs.laws.Written.{written-reads}
 use Rattle.iff_tree.specs.Judge.{found}
 use Rattle.ilbm_spec.specs.declared.BitmapHeader.{BitmapHeader}
-use Rattle.ilbm_spec.specs.Rows.{rowsFrom, rowLength, lineFrom, linesFrom}
+use Rattle.ilbm_spec.specs.Rows.{rowLength, rowsInLine, rowsFrom, lineBy, linesBy}
 use Rattle.write_plane_row.specs.Planes.{planeRow}
 use Rattle.write_body.specs.Body.{lineRows, lineBytes, bodyLines}
 use Rattle.theorem_roundtrip.specs.laws.Planes.{row-length, planeRows, rows-count, Below, below-take, below-drop, colours-back}
@@ -47,20 +47,23 @@ module _ (compression n : ℕ) (line : List ℕ) where
 
 -- a header whose masking asks for no mask row
 module _ (b : BitmapHeader) (plain : eqb (b .masking) 1 ≡ false) where
+  abbrev rows : ℕ
+  rows = rowsInLine (b .planes) (b .masking)
+
   line-back :
       (line pre rest : List ℕ) → length line ≡ b .w → Below (2 ^ b .planes) line →
-      lineFrom b (pre ++ (lineBytes b line ++ rest)) (length pre) ≡ found (line, (length pre + length (lineBytes b line)))
+      lineBy (b .compression) (b .w) (b .planes) rows (pre ++ (lineBytes b line ++ rest)) (length pre) ≡ found (line, (length pre + length (lineBytes b line)))
   line-back line pre rest e u =
       let n : ℕ = rowLength (b .w) in
-      let rows : List (List ℕ) = planeRows n line 1 (b .planes) in
-      let count : length rows ≡ b .planes = rows-count n line 1 (b .planes) in
-      let all : take (b .planes) rows ≡ rows = take-all (b .planes) rows (omega arith) in
+      let made : List (List ℕ) = planeRows n line 1 (b .planes) in
+      let count : length made ≡ b .planes = rows-count n line 1 (b .planes) in
+      let all : take (b .planes) made ≡ made = take-all (b .planes) made (omega arith) in
       rw (plain, add-zero (b .planes), rows-back (b .compression) n line (b .planes) 1 pre rest, all, colours-back (b .w) (b .planes) line e u)
 
   pub lines-back :
       (lines : ℕ) (frame pre rest : List ℕ) → length frame ≡ lines * b .w → Below (2 ^ b .planes) frame →
-      linesFrom b (pre ++ (bodyLines b frame lines ++ rest)) lines (length pre) ≡ found (frame, (length pre + length (bodyLines b frame lines)))
-  unfolding linesFrom bodyLines
+      linesBy (b .compression) (b .w) (b .planes) rows (pre ++ (bodyLines b frame lines ++ rest)) lines (length pre) ≡ found (frame, (length pre + length (bodyLines b frame lines)))
+  unfolding linesBy bodyLines
   lines-back zero [] pre rest e u = rw (add-zero (length pre))
   lines-back zero (c ∷ cs) pre rest e u = absurd (omega arith)
   lines-back (suc lines) frame pre rest e u =
@@ -72,10 +75,10 @@ module _ (b : BitmapHeader) (plain : eqb (b .masking) 1 ≡ false) where
       let one : body ≡ pre ++ (head ++ (more ++ rest)) = rw (append-assoc head more rest) in
       let two : body ≡ (pre ++ head) ++ (more ++ rest) = one ∙ sym (append-assoc pre head (more ++ rest)) in
       let at : length (pre ++ head) ≡ length pre + length head = length-append pre head in
-      let first : lineFrom b body (length pre) ≡ found ((take w frame), (length pre + length head)) =
+      let first : lineBy (b .compression) (b .w) (b .planes) rows body (length pre) ≡ found ((take w frame), (length pre + length head)) =
       rw one (line-back (take w frame) pre (more ++ rest) (length-take-le w frame (omega arith)) (below-take (2 ^ b .planes) w frame u)) in
       let left : length (drop w frame) ≡ lines * w = rw length-drop (omega arith) in
-      let others : linesFrom b body lines (length pre + length head) ≡ found ((drop w frame), (length pre + length head + length more)) =
+      let others : linesBy (b .compression) (b .w) (b .planes) rows body lines (length pre + length head) ≡ found ((drop w frame), (length pre + length head + length more)) =
       rw (two, ← at) (lines-back lines (drop w frame) (pre ++ head) rest left (below-drop (2 ^ b .planes) w frame u)) in
       let ends : length pre + length head + length more ≡ length pre + length (head ++ more) = rw length-append (omega arith) in
       rw (first, others, take-append-drop w frame, ends)

@@ -1,4 +1,5 @@
--- Each part is put behind the one before it, and what is left has room since the file has.
+-- Each part is put behind the one before it, and what is left has room since the file has. In each answer `sized` is the place after
+-- `palette_size`, and `s` the start.
 use native.Mathlib.Omega.{arith}
 use Rattle.write_form.proofs.Files.{file-fits, file-short, file-put}
 use borrow.Author.Needs.{needs}
@@ -9,43 +10,107 @@ palette-size-requires : tie.Need-palette-size-requires
 palette-size-requires c κs = search needs
 
 add-put-head : tie.Need-add-put-head
-add-put-head c = record { fits = omega (arith, file-fits _ _ _ _ _ (c .palette-size .ensures) (c .before .before .before .before .pre .3) _ (c .before .before .before .before .pre .4), file-short _ _ _ _ _ (c .palette-size .ensures) (c .before .before .before .before .pre .3) _ (c .before .before .before .before .pre .4)) }
+add-put-head c =
+    let sized = c in
+    let s = sized .before .before .before .before in
+    let short = file-short _ _ _ _ _ (sized .palette-size .ensures) (s .pre .3) _ (s .pre .4) in
+    record { fits = omega arith }
 
 add-put-head-2 : tie.Need-add-put-head-2
-add-put-head-2 c = record { fits = omega (arith, file-fits _ _ _ _ _ (c .palette-size .ensures) (c .before .before .before .before .pre .3) _ (c .before .before .before .before .pre .4), file-short _ _ _ _ _ (c .palette-size .ensures) (c .before .before .before .before .pre .3) _ (c .before .before .before .before .pre .4)) }
+add-put-head-2 c =
+    let sized = c in
+    let s = sized .before .before .before .before in
+    let short = file-short _ _ _ _ _ (sized .palette-size .ensures) (s .pre .3) _ (s .pre .4) in
+    record { fits = omega arith }
 
 add-put-head-3 : tie.Need-add-put-head-3
-add-put-head-3 c = record { fits = omega (arith, file-fits _ _ _ _ _ (c .palette-size .ensures) (c .before .before .before .before .pre .3) _ (c .before .before .before .before .pre .4), file-short _ _ _ _ _ (c .palette-size .ensures) (c .before .before .before .before .pre .3) _ (c .before .before .before .before .pre .4)) }
+add-put-head-3 c =
+    let sized = c in
+    let s = sized .before .before .before .before in
+    let short = file-short _ _ _ _ _ (sized .palette-size .ensures) (s .pre .3) _ (s .pre .4) in
+    record { fits = omega arith }
 
 put-head-requires : tie.Need-put-head-requires
-put-head-requires c κs = (omega arith, omega (arith, file-fits _ _ _ _ _ (c .before .palette-size .ensures) (c .before .before .before .before .before .pre .3) _ (c .before .before .before .before .before .pre .4), file-short _ _ _ _ _ (c .before .palette-size .ensures) (c .before .before .before .before .before .pre .3) _ (c .before .before .before .before .before .pre .4)), omega (arith, file-fits _ _ _ _ _ (c .before .palette-size .ensures) (c .before .before .before .before .before .pre .3) _ (c .before .before .before .before .before .pre .4), file-short _ _ _ _ _ (c .before .palette-size .ensures) (c .before .before .before .before .before .pre .3) _ (c .before .before .before .before .before .pre .4)))
+put-head-requires c κs =
+    let sized = c .before in
+    let s = sized .before .before .before .before in
+    let fits = file-fits _ _ _ _ _ (sized .palette-size .ensures) (s .pre .3) _ (s .pre .4) in
+    let short = file-short _ _ _ _ _ (sized .palette-size .ensures) (s .pre .3) _ (s .pre .4) in
+    (omega arith, omega arith, omega arith)
 
 put-header-requires : tie.Need-put-header-requires
-put-header-requires c κs = omega (arith, file-fits _ _ _ _ _ (c .before .before .before .before .before .palette-size .ensures) (c .before .before .before .before .before .before .before .before .before .pre .3) _ (c .before .before .before .before .before .before .before .before .before .pre .4), file-short _ _ _ _ _ (c .before .before .before .before .before .palette-size .ensures) (c .before .before .before .before .before .before .before .before .before .pre .3) _ (c .before .before .before .before .before .before .before .before .before .pre .4))
+put-header-requires c κs =
+    let sized = c .before .before .before .before .before in
+    let s = sized .before .before .before .before in
+    let fits = file-fits _ _ _ _ _ (sized .palette-size .ensures) (s .pre .3) _ (s .pre .4) in
+    omega arith
 
 put-palette-requires : tie.Need-put-palette-requires
-put-palette-requires c κs = (c .before .before .before .before .before .before .before .before .before .before .before .before .before .pre .1, omega (arith, file-fits _ _ _ _ _ (c .before .before .before .before .before .before .before .before .before .palette-size .ensures) (c .before .before .before .before .before .before .before .before .before .before .before .before .before .pre .3) _ (c .before .before .before .before .before .before .before .before .before .before .before .before .before .pre .4), c .before .before .before .before .before .before .before .before .before .palette-size .ensures))
+put-palette-requires c κs =
+    let sized = c .before .before .before .before .before .before .before .before .before in
+    let s = sized .before .before .before .before in
+    let fits = file-fits _ _ _ _ _ (sized .palette-size .ensures) (s .pre .3) _ (s .pre .4) in
+    (s .pre .1, omega (arith, sized .palette-size .ensures))
 
 add-put-head-4 : tie.Need-add-put-head-4
-add-put-head-4 c = record { fits = omega (arith, file-fits _ _ _ _ _ (c .before .before .before .before .before .before .before .before .before .before .before .before .before .palette-size .ensures) (c .before .before .before .before .before .before .before .before .before .before .before .before .before .before .before .before .before .pre .3) _ (c .before .before .before .before .before .before .before .before .before .before .before .before .before .before .before .before .before .pre .4), file-short _ _ _ _ _ (c .before .before .before .before .before .before .before .before .before .before .before .before .before .palette-size .ensures) (c .before .before .before .before .before .before .before .before .before .before .before .before .before .before .before .before .before .pre .3) _ (c .before .before .before .before .before .before .before .before .before .before .before .before .before .before .before .before .before .pre .4)) }
+add-put-head-4 c =
+    let sized = c .before .before .before .before .before .before .before .before .before .before .before .before .before in
+    let s = sized .before .before .before .before in
+    let short = file-short _ _ _ _ _ (sized .palette-size .ensures) (s .pre .3) _ (s .pre .4) in
+    record { fits = omega arith }
 
 put-head-requires-2 : tie.Need-put-head-requires-2
-put-head-requires-2 c κs = (omega arith, omega (arith, file-fits _ _ _ _ _ (c .before .before .before .before .before .before .before .before .before .before .before .before .before .palette-size .ensures) (c .before .before .before .before .before .before .before .before .before .before .before .before .before .before .before .before .before .pre .3) _ (c .before .before .before .before .before .before .before .before .before .before .before .before .before .before .before .before .before .pre .4), file-short _ _ _ _ _ (c .before .before .before .before .before .before .before .before .before .before .before .before .before .palette-size .ensures) (c .before .before .before .before .before .before .before .before .before .before .before .before .before .before .before .before .before .pre .3) _ (c .before .before .before .before .before .before .before .before .before .before .before .before .before .before .before .before .before .pre .4)), omega (arith, file-fits _ _ _ _ _ (c .before .before .before .before .before .before .before .before .before .before .before .before .before .palette-size .ensures) (c .before .before .before .before .before .before .before .before .before .before .before .before .before .before .before .before .before .pre .3) _ (c .before .before .before .before .before .before .before .before .before .before .before .before .before .before .before .before .before .pre .4), file-short _ _ _ _ _ (c .before .before .before .before .before .before .before .before .before .before .before .before .before .palette-size .ensures) (c .before .before .before .before .before .before .before .before .before .before .before .before .before .before .before .before .before .pre .3) _ (c .before .before .before .before .before .before .before .before .before .before .before .before .before .before .before .before .before .pre .4)))
+put-head-requires-2 c κs =
+    let fits = file-fits _ _ _ _ _ (c .before .before .before .before .before .before .before .before .before .before .before .before .before .palette-size .ensures)
+    (c .before .before .before .before .before .before .before .before .before .before .before .before .before .before .before .before .before .pre .3) _
+    (c .before .before .before .before .before .before .before .before .before .before .before .before .before .before .before .before .before .pre .4) in
+    let short = file-short _ _ _ _ _ (c .before .before .before .before .before .before .before .before .before .before .before .before .before .palette-size .ensures)
+    (c .before .before .before .before .before .before .before .before .before .before .before .before .before .before .before .before .before .pre .3) _
+    (c .before .before .before .before .before .before .before .before .before .before .before .before .before .before .before .before .before .pre .4) in
+    (omega arith, omega arith, omega arith)
 
 add-put-body : tie.Need-add-put-body
-add-put-body c = record { fits = omega (arith, file-fits _ _ _ _ _ (c .before .before .before .before .before .before .before .before .before .before .before .before .before .before .before .before .before .palette-size .ensures) (c .before .before .before .before .before .before .before .before .before .before .before .before .before .before .before .before .before .before .before .before .before .pre .3) _ (c .before .before .before .before .before .before .before .before .before .before .before .before .before .before .before .before .before .before .before .before .before .pre .4), file-short _ _ _ _ _ (c .before .before .before .before .before .before .before .before .before .before .before .before .before .before .before .before .before .palette-size .ensures) (c .before .before .before .before .before .before .before .before .before .before .before .before .before .before .before .before .before .before .before .before .before .pre .3) _ (c .before .before .before .before .before .before .before .before .before .before .before .before .before .before .before .before .before .before .before .before .before .pre .4)) }
+add-put-body c =
+    let sized = c .before .before .before .before .before .before .before .before .before .before .before .before .before .before .before .before .before in
+    let s = sized .before .before .before .before in
+    let short = file-short _ _ _ _ _ (sized .palette-size .ensures) (s .pre .3) _ (s .pre .4) in
+    record { fits = omega arith }
 
 put-body-requires : tie.Need-put-body-requires
-put-body-requires c κs = (c .before .before .before .before .before .before .before .before .before .before .before .before .before .before .before .before .before .before .before .before .before .pre .0, c .before .before .before .before .before .before .before .before .before .before .before .before .before .before .before .before .before .before .before .before .before .pre .2, record { fits = omega (arith, file-fits _ _ _ _ _ (c .before .before .before .before .before .before .before .before .before .before .before .before .before .before .before .before .before .palette-size .ensures) (c .before .before .before .before .before .before .before .before .before .before .before .before .before .before .before .before .before .before .before .before .before .pre .3) _ (c .before .before .before .before .before .before .before .before .before .before .before .before .before .before .before .before .before .before .before .before .before .pre .4), c .before .before .before .before .before .before .before .before .before .before .before .before .before .before .before .before .before .before .before .before .before .pre .3); short = omega (arith, file-short _ _ _ _ _ (c .before .before .before .before .before .before .before .before .before .before .before .before .before .before .before .before .before .palette-size .ensures) (c .before .before .before .before .before .before .before .before .before .before .before .before .before .before .before .before .before .before .before .before .before .pre .3) _ (c .before .before .before .before .before .before .before .before .before .before .before .before .before .before .before .before .before .before .before .before .before .pre .4), c .before .before .before .before .before .before .before .before .before .before .before .before .before .before .before .before .before .before .before .before .before .pre .3) })
+put-body-requires c κs =
+    let fits = file-fits _ _ _ _ _ (c .before .before .before .before .before .before .before .before .before .before .before .before .before .before .before .before .before .palette-size .ensures)
+    (c .before .before .before .before .before .before .before .before .before .before .before .before .before .before .before .before .before .before .before .before .before .pre .3) _
+    (c .before .before .before .before .before .before .before .before .before .before .before .before .before .before .before .before .before .before .before .before .before .pre .4) in
+    let short = file-short _ _ _ _ _ (c .before .before .before .before .before .before .before .before .before .before .before .before .before .before .before .before .before .palette-size .ensures)
+    (c .before .before .before .before .before .before .before .before .before .before .before .before .before .before .before .before .before .before .before .before .before .pre .3) _
+    (c .before .before .before .before .before .before .before .before .before .before .before .before .before .before .before .before .before .before .before .before .before .pre .4) in
+    let is = c .before .before .before .before .before .before .before .before .before .before .before .before .before .before .before .before .before .before .before .before .before .pre .3 in
+    let planes = c .before .before .before .before .before .before .before .before .before .before .before .before .before .before .before .before .before .before .before .before .before .pre .0 in
+    let pixels = c .before .before .before .before .before .before .before .before .before .before .before .before .before .before .before .before .before .before .before .before .before .pre .2 in
+    (planes, pixels, record { fits = omega arith; short = omega arith })
 
 put-pad-requires : tie.Need-put-pad-requires
-put-pad-requires c κs = omega (arith, file-fits _ _ _ _ _ (c .before .before .before .before .before .before .before .before .before .before .before .before .before .before .before .before .before .before .before .before .before .palette-size .ensures) (c .before .before .before .before .before .before .before .before .before .before .before .before .before .before .before .before .before .before .before .before .before .before .before .before .before .pre .3) _ (c .before .before .before .before .before .before .before .before .before .before .before .before .before .before .before .before .before .before .before .before .before .before .before .before .before .pre .4), c .before .before .before .before .before .before .before .before .before .before .before .before .before .before .before .before .before .before .before .before .before .before .before .before .before .pre .3, c .before .before .before .put-body .ensures .0)
+put-pad-requires c κs =
+    let fits = file-fits _ _ _ _ _ (c .before .before .before .before .before .before .before .before .before .before .before .before .before .before .before .before .before .before .before .before .before .palette-size .ensures)
+    (c .before .before .before .before .before .before .before .before .before .before .before .before .before .before .before .before .before .before .before .before .before .before .before .before .before .pre .3) _
+    (c .before .before .before .before .before .before .before .before .before .before .before .before .before .before .before .before .before .before .before .before .before .before .before .before .before .pre .4) in
+    omega (arith, c .before .before .before .before .before .before .before .before .before .before .before .before .before .before .before .before .before .before .before .before .before .before .before .before .before .pre .3, c .before .before .before .put-body .ensures .0)
 
 same-length : tie.Need-same-length
 same-length c = search needs
 
 returns : tie.Need-returns
-returns c = file-put _ _ _ _ _ (c .before .before .before .before .before .before .before .before .before .before .before .before .before .before .before .before .before .before .before .before .before .before .before .before .palette-size .ensures) (c .before .before .before .before .before .before .before .before .before .before .before .before .before .before .before .before .before .before .before .before .before .before .before .before .before .before .before .before .pre .3) _ (c .before .before .before .before .before .before .before .before .before .before .before .before .before .before .before .before .before .before .before .before .before .before .before .before .before .before .before .before .pre .4) _ _ _ _ _ _ _ (c .before .before .before .before .before .before .before .before .before .before .before .before .before .before .before .before .before .before .before .before .before .before .put-head .ensures) (c .before .before .before .before .before .before .before .before .before .before .before .before .before .before .before .before .before .before .put-header .ensures) (c .before .before .before .before .before .before .before .before .before .before .before .before .before .before .put-palette .ensures) (c .before .before .before .before .before .before .before .before .before .before .put-head2 .ensures) (c .before .before .before .before .before .before .put-body .ensures .1) (c .before .before .before .before .before .before .put-body .ensures .0) (c .before .before .put-pad .ensures)
+returns c =
+    let padded = c .before .before in
+    let body = padded .before .before .before .before in
+    let head = body .before .before .before .before in
+    let palette = head .before .before .before .before in
+    let header = palette .before .before .before .before in
+    let form = header .before .before .before .before in
+    let sized = form .before .before in
+    let s = sized .before .before .before .before in
+    file-put _ _ _ _ _ (sized .palette-size .ensures) (s .pre .3) _ (s .pre .4) _ _ _ _ _ _ _ (form .put-head .ensures) (header .put-header .ensures)
+    (palette .put-palette .ensures) (head .put-head2 .ensures) (body .put-body .ensures .1) (body .put-body .ensures .0) (padded .put-pad .ensures)
 
 pub put-file-spec : {M : Type 1} → statement M
 put-file-spec =

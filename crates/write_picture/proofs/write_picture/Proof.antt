@@ -1,6 +1,5 @@
 -- Each way out has its law, from what the tests before it showed.
-use native.Mathlib.Omega.{arith}
-use Rattle.write_form.proofs.Files.{file-size, palette-small}
+use mathlib.Core.Path.{sym}
 use Rattle.write_picture.proofs.Answers.{fields-right, answer-33, answer-34, answer-35, answer-32, room-0, answer-0}
 use borrow.Author.Needs.{needs}
 use Rattle.write_picture.proofs.write_picture.Statement.{statement}
@@ -10,7 +9,10 @@ wrong-fields-requires : tie.Need-wrong-fields-requires
 wrong-fields-requires c κs = search needs
 
 returns : tie.Need-returns
-returns c = answer-33 (c .before .before .before .before .before .args .header) (c .before .before .before .before .before .args .palette .now) (c .before .before .before .before .before .args .frame .now) (c .before .before .before .before .before .args .out .now) _ (c .before .wrong-fields .ensures) (c .if1 .taken)
+returns c =
+    let fields = c .before in
+    let s = fields .before .before .before .before .args in
+    answer-33 (s .header) (s .palette .now) (s .frame .now) (s .out .now) _ (fields .wrong-fields .ensures) (c .if1 .taken)
 
 cast-power : tie.Need-cast-power
 cast-power c = search needs
@@ -22,37 +24,69 @@ colour-over-requires : tie.Need-colour-over-requires
 colour-over-requires c κs = search needs
 
 returns-2 : tie.Need-returns-2
-returns-2 c = answer-34 (c .before .before .before .before .before .before .before .before .before .args .header) (c .before .before .before .before .before .before .before .before .before .args .palette .now) (c .before .before .before .before .before .before .before .before .before .args .frame .now) (c .before .before .before .before .before .before .before .before .before .args .out .now) _ (c .before .before .before .before .before .wrong-fields .ensures) (c .before .before .before .before .if1 .left) _ _ (c .before .before .power .ensures) (c .before .colour-over .ensures) (c .if2 .taken)
+returns-2 c =
+    let colours = c .before in
+    let right = colours .before .before .before in
+    let fields = right .before in
+    let s = fields .before .before .before .before .args in
+    answer-34 (s .header) (s .palette .now) (s .frame .now) (s .out .now) _ (fields .wrong-fields .ensures) (right .if1 .left)
+    _ _ (colours .before .power .ensures) (colours .colour-over .ensures) (c .if2 .taken)
 
-body-len-requires : tie.Need-body-len-requires
-body-len-requires c κs = (fields-right _ _ _ _ (c .before .before .before .before .before .wrong-fields .ensures) (c .before .before .before .before .if1 .left) .0, fields-right _ _ _ _ (c .before .before .before .before .before .wrong-fields .ensures) (c .before .before .before .before .if1 .left) .2)
-
-palette-size-requires : tie.Need-palette-size-requires
-palette-size-requires c κs = fields-right _ _ _ _ (c .before .before .before .before .before .before .wrong-fields .ensures) (c .before .before .before .before .before .if1 .left) .1
-
-add-size : tie.Need-add-size
-add-size c = record { fits = omega (arith, palette-small _ _ (fields-right _ _ _ _ (c .before .before .before .before .before .before .before .wrong-fields .ensures) (c .before .before .before .before .before .before .if1 .left) .1) (c .palette-size .ensures)) }
-
-add-size-2 : tie.Need-add-size-2
-add-size-2 c = record { fits = omega (arith, palette-small _ _ (fields-right _ _ _ _ (c .before .before .before .before .before .before .before .wrong-fields .ensures) (c .before .before .before .before .before .before .if1 .left) .1) (c .palette-size .ensures), c .before .body-len .ensures .1) }
-
-add-size-3 : tie.Need-add-size-3
-add-size-3 c = record { fits = omega (arith, palette-small _ _ (fields-right _ _ _ _ (c .before .before .before .before .before .before .before .wrong-fields .ensures) (c .before .before .before .before .before .before .if1 .left) .1) (c .palette-size .ensures), c .before .body-len .ensures .1) }
+file-sizes-requires : tie.Need-file-sizes-requires
+file-sizes-requires c κs =
+    let right = c .before .before .before .before in
+    fields-right _ _ _ _ (right .before .wrong-fields .ensures) (right .if1 .left)
 
 returns-3 : tie.Need-returns-3
-returns-3 c = answer-35 (c .before .before .before .before .before .before .before .before .before .before .before .before .args .header) (c .before .before .before .before .before .before .before .before .before .before .before .before .args .palette .now) (c .before .before .before .before .before .before .before .before .before .before .before .before .args .frame .now) (c .before .before .before .before .before .before .before .before .before .before .before .before .args .out .now) _ (c .before .before .before .before .before .before .before .before .wrong-fields .ensures) (c .before .before .before .before .before .before .before .if1 .left) _ _ (c .before .before .before .before .before .power .ensures) (c .before .before .before .before .colour-over .ensures) (c .before .before .before .if2 .left) _ (file-size (c .before .before .before .before .before .before .before .before .before .before .before .before .args .header) (c .before .before .before .before .before .before .before .before .before .before .before .before .args .palette .now) (c .before .before .before .before .before .before .before .before .before .before .before .before .args .frame .now) _ _ (c .before .palette-size .ensures) (c .before .before .body-len .ensures .0)) (c .if3 .taken)
+returns-3 c =
+    let sizes = c .before in
+    let colours = sizes .before .before in
+    let right = colours .before .before .before in
+    let fields = right .before in
+    let s = fields .before .before .before .before .args in
+    answer-35 (s .header) (s .palette .now) (s .frame .now) (s .out .now) _ (fields .wrong-fields .ensures) (right .if1 .left)
+    _ _ (colours .before .power .ensures) (colours .colour-over .ensures) (sizes .before .if2 .left) _ (sym (sizes .file-sizes .ensures .1)) (c .if3 .taken)
 
 returns-4 : tie.Need-returns-4
-returns-4 c = answer-32 (c .before .before .before .before .before .before .before .before .before .before .before .before .before .args .header) (c .before .before .before .before .before .before .before .before .before .before .before .before .before .args .palette .now) (c .before .before .before .before .before .before .before .before .before .before .before .before .before .args .frame .now) (c .before .before .before .before .before .before .before .before .before .before .before .before .before .args .out .now) _ (c .before .before .before .before .before .before .before .before .before .wrong-fields .ensures) (c .before .before .before .before .before .before .before .before .if1 .left) _ _ (c .before .before .before .before .before .before .power .ensures) (c .before .before .before .before .before .colour-over .ensures) (c .before .before .before .before .if2 .left) _ (file-size (c .before .before .before .before .before .before .before .before .before .before .before .before .before .args .header) (c .before .before .before .before .before .before .before .before .before .before .before .before .before .args .palette .now) (c .before .before .before .before .before .before .before .before .before .before .before .before .before .args .frame .now) _ _ (c .before .before .palette-size .ensures) (c .before .before .before .body-len .ensures .0)) (c .before .if3 .left) (c .if4 .taken)
+returns-4 c =
+    let sizes = c .before .before in
+    let colours = sizes .before .before in
+    let right = colours .before .before .before in
+    let fields = right .before in
+    let s = fields .before .before .before .before .args in
+    answer-32 (s .header) (s .palette .now) (s .frame .now) (s .out .now) _ (fields .wrong-fields .ensures) (right .if1 .left)
+    _ _ (colours .before .power .ensures) (colours .colour-over .ensures) (sizes .before .if2 .left) _ (sym (sizes .file-sizes .ensures .1))
+    (c .before .if3 .left) (c .if4 .taken)
 
 put-file-requires : tie.Need-put-file-requires
-put-file-requires c κs = (fields-right _ _ _ _ (c .before .before .before .before .before .before .before .before .before .before .wrong-fields .ensures) (c .before .before .before .before .before .before .before .before .before .if1 .left) .0, fields-right _ _ _ _ (c .before .before .before .before .before .before .before .before .before .before .wrong-fields .ensures) (c .before .before .before .before .before .before .before .before .before .if1 .left) .1, fields-right _ _ _ _ (c .before .before .before .before .before .before .before .before .before .before .wrong-fields .ensures) (c .before .before .before .before .before .before .before .before .before .if1 .left) .2, c .before .before .before .before .body-len .ensures .0, room-0 (c .before .before .before .before .before .before .before .before .before .before .before .before .before .before .args .header) (c .before .before .before .before .before .before .before .before .before .before .before .before .before .before .args .palette .now) (c .before .before .before .before .before .before .before .before .before .before .before .before .before .before .args .frame .now) (c .before .before .before .before .before .before .before .before .before .before .before .before .before .before .args .out .now) _ (c .before .before .before .before .before .before .before .before .before .before .wrong-fields .ensures) (c .before .before .before .before .before .before .before .before .before .if1 .left) _ _ (c .before .before .before .before .before .before .before .power .ensures) (c .before .before .before .before .before .before .colour-over .ensures) (c .before .before .before .before .before .if2 .left) _ (file-size (c .before .before .before .before .before .before .before .before .before .before .before .before .before .before .args .header) (c .before .before .before .before .before .before .before .before .before .before .before .before .before .before .args .palette .now) (c .before .before .before .before .before .before .before .before .before .before .before .before .before .before .args .frame .now) _ _ (c .before .before .before .palette-size .ensures) (c .before .before .before .before .body-len .ensures .0)) (c .before .before .if3 .left) (c .before .if4 .left))
+put-file-requires c κs =
+    let fits = c .before in
+    let sizes = fits .before .before in
+    let colours = sizes .before .before in
+    let right = colours .before .before .before in
+    let fields = right .before in
+    let s = fields .before .before .before .before .args in
+    let r = fields-right _ _ _ _ (fields .wrong-fields .ensures) (right .if1 .left) in
+    let room = room-0 (s .header) (s .palette .now) (s .frame .now) (s .out .now) _ (fields .wrong-fields .ensures) (right .if1 .left)
+    _ _ (colours .before .power .ensures) (colours .colour-over .ensures) (sizes .before .if2 .left) _ (sym (sizes .file-sizes .ensures .1))
+    (fits .before .if3 .left) (fits .if4 .left) in
+    (r .0, r .1, r .2, sizes .file-sizes .ensures .0, room)
 
 same-length : tie.Need-same-length
 same-length c = search needs
 
 returns-5 : tie.Need-returns-5
-returns-5 c = answer-0 (c .before .before .before .before .before .before .before .before .before .before .before .before .before .before .before .before .before .args .header) (c .before .before .before .before .before .before .before .before .before .before .before .before .before .before .before .before .before .args .palette .now) (c .before .before .before .before .before .before .before .before .before .before .before .before .before .before .before .before .before .args .frame .now) (c .before .before .before .before .before .before .before .before .before .before .before .before .before .before .before .before .before .args .out .now) _ (c .before .before .before .before .before .before .before .before .before .before .before .before .before .wrong-fields .ensures) (c .before .before .before .before .before .before .before .before .before .before .before .before .if1 .left) _ _ (c .before .before .before .before .before .before .before .before .before .before .power .ensures) (c .before .before .before .before .before .before .before .before .before .colour-over .ensures) (c .before .before .before .before .before .before .before .before .if2 .left) _ (file-size (c .before .before .before .before .before .before .before .before .before .before .before .before .before .before .before .before .before .args .header) (c .before .before .before .before .before .before .before .before .before .before .before .before .before .before .before .before .before .args .palette .now) (c .before .before .before .before .before .before .before .before .before .before .before .before .before .before .before .before .before .args .frame .now) _ _ (c .before .before .before .before .before .before .palette-size .ensures) (c .before .before .before .before .before .before .before .body-len .ensures .0)) (c .before .before .before .before .before .if3 .left) _ (c .before .before .before .before .if4 .left) (c .before .before .put-file .ensures)
+returns-5 c =
+    let written = c .before .before in
+    let fits = written .before .before in
+    let sizes = fits .before .before in
+    let colours = sizes .before .before in
+    let right = colours .before .before .before in
+    let fields = right .before in
+    let s = fields .before .before .before .before .args in
+    answer-0 (s .header) (s .palette .now) (s .frame .now) (s .out .now) _ (fields .wrong-fields .ensures) (right .if1 .left)
+    _ _ (colours .before .power .ensures) (colours .colour-over .ensures) (sizes .before .if2 .left) _ (sym (sizes .file-sizes .ensures .1))
+    (fits .before .if3 .left) _ (fits .if4 .left) (written .put-file .ensures)
 
 pub write-picture-spec : {M : Type 1} → statement M
 write-picture-spec =
@@ -64,11 +98,7 @@ write-picture-spec =
     power-requires
     colour-over-requires
     returns-2
-    body-len-requires
-    palette-size-requires
-    add-size
-    add-size-2
-    add-size-3
+    file-sizes-requires
     returns-3
     returns-4
     put-file-requires

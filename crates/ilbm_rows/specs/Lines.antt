@@ -6,7 +6,6 @@ use lib.ListN.{length}
 use Rattle.ilbm_spec.specs.declared.LineAnswer.{LineAnswer}
 use Rattle.ilbm_spec.specs.declared.FrameAnswer.{FrameAnswer}
 use Rattle.ilbm_spec.specs.Contents.{Content}
-
 use Rattle.ilbm_spec.specs.Rows.{lineRead, frameRead, lineAnswer, frameAnswer, bytesAfter}
 use Rattle.ilbm_content.specs.declared.Contents.{Contents}
 use Rattle.iff_tree.specs.Judge.{found}
