@@ -4,10 +4,8 @@ use mathlib.Core.Path.{_≡_, sym, _∙_}
 use Rattle.list_spec.specs.declared.Record.{Record}
 use Rattle.list_spec.specs.declared.Listed.{Listed}
 use Rattle.list_spec.specs.declared.Listed.the-variants.{Chunk as Listed-chunk, Refused as Listed-refused}
-use Rattle.list_spec.specs.declared.Extent.{Extent}
-use Rattle.list_spec.specs.declared.Extent.the-variants.{Data, Refused as Extent-refused}
 use Rattle.iff_name.specs.Name.{kindNumber}
-use Rattle.export_chunk.specs.Numbers.{RecordNumbers, recordNumbers, DataNumbers, dataNumbers}
+use Rattle.export_chunk.specs.Numbers.{RecordNumbers, recordNumbers}
 
 module _ (x v : Listed) (a : v ≡ x) where
   pub record-listed :
@@ -23,12 +21,3 @@ module _ (x v : Listed) (a : v ≡ x) where
       _≡_ {A = RecordNumbers} (record { number = k; place = p; level = 0; kind = 0; name = 0; at = 0; size = 0 }) (recordNumbers x)
   unfolding recordNumbers
   record-refused k p b = rw (sym a ∙ b)
-
-module _ (x v : Extent) (a : v ≡ x) where
-  pub data-lies : (f t : ℕ) → v ≡ Data f t → _≡_ {A = DataNumbers} (record { number = 0; place = 0; from = f; to = t }) (dataNumbers x)
-  unfolding dataNumbers
-  data-lies f t b = rw (sym a ∙ b)
-
-  pub data-refused : (k p : ℕ) → v ≡ Extent-refused k p → _≡_ {A = DataNumbers} (record { number = k; place = p; from = 0; to = 0 }) (dataNumbers x)
-  unfolding dataNumbers
-  data-refused k p b = rw (sym a ∙ b)

@@ -1,13 +1,10 @@
--- The numbers told for each answer: 0 or the refusal's number, its place, and the values;
+-- The numbers told of a record: 0 or the refusal's number, its place, and the values;
 -- "any other number told beside it is 0".
 use Prim.Native.Nat.{ℕ}
 use Rattle.iff_name.specs.Name.{kindNumber}
 use Rattle.list_spec.specs.declared.Listed.{Listed}
 use Rattle.list_spec.specs.declared.Listed.the-variants.{Chunk as Listed-chunk, Refused as Listed-refused}
-use Rattle.list_spec.specs.declared.Extent.{Extent}
-use Rattle.list_spec.specs.declared.Extent.the-variants.{Data, Refused as Extent-refused}
 
--- what a call tells beside its number
 pub record RecordNumbers : Type 0 where
   pub number : ℕ
   pub place : ℕ
@@ -21,13 +18,3 @@ unfoldable pub recordNumbers : Listed → RecordNumbers
 recordNumbers (Listed-chunk r) =
     record { number = 0; place = 0; level = r .level; kind = kindNumber (r .kind); name = r .name .code; at = r .place; size = r .size }
 recordNumbers (Listed-refused k p) = record { number = k; place = p; level = 0; kind = 0; name = 0; at = 0; size = 0 }
-
-pub record DataNumbers : Type 0 where
-  pub number : ℕ
-  pub place : ℕ
-  pub from : ℕ
-  pub to : ℕ
-
-unfoldable pub dataNumbers : Extent → DataNumbers
-dataNumbers (Data a b) = record { number = 0; place = 0; from = a; to = b }
-dataNumbers (Extent-refused k p) = record { number = k; place = p; from = 0; to = 0 }

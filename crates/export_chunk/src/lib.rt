@@ -1,12 +1,12 @@
 // The exported calls on one chunk of a file: numbers and byte slices, each call a few lines over a proved one.
 // Each returns 0 or the number of a refusal; whatever else it tells is 0 beside a refusal, but its place.
-use list_spec::Extent;
-use list_spec::Listed;
 use iff_name::kind_number;
+use list_spec::Listed;
 ghost use mathlib.Core.Path.{_≡_};
+ghost use lib.Seq.{slice};
 ghost use Rattle.list_spec.specs.Records.{recordOf};
-ghost use Rattle.list_spec.specs.Contents.{extentOf};
-ghost use Rattle.export_chunk.specs.Numbers.{recordNumbers, dataNumbers};
+ghost use Rattle.list_spec.specs.Contents.{extentOf, dataOf};
+ghost use Rattle.export_chunk.specs.Numbers.{recordNumbers};
 
 // The record of a chunk by its number.
 #[no_mangle]
@@ -66,25 +66,13 @@ pub extern "C" fn iff_data(
     from: &mut usize,
     to: &mut usize,
 ) -> usize
-    ensures { λ r. ⌜ record { number = r; place = now (place .exit); from = now (from .exit); to = now (to .exit) }
-        ≡ dataNumbers (extentOf (now (file .entry)) number) ⌝ }
+    ensures answer { λ r. ⌜ record { number = r; place = now (place .exit); from = now (from .exit); to = now (to .exit) }
+        ≡ extentOf (now (file .entry)) number ⌝ }
+    ensures part { λ _. ⌜ slice (now (from .exit)) (now (to .exit)) (now (file .entry)) ≡ dataOf (now (file .entry)) number ⌝ }
 {
-    let v = list_data::data_extent(file, number);
-    match v {
-        Extent::Data { from: a, to: b } => {
-            *place = 0;
-            *from = a;
-            *to = b;
-            0
-        }
-        Extent::Refused {
-            number: n,
-            place: p,
-        } => {
-            *place = p;
-            *from = 0;
-            *to = 0;
-            n
-        }
-    }
+    let x = list_data::data_extent(file, number);
+    *place = x.place;
+    *from = x.from;
+    *to = x.to;
+    x.number
 }

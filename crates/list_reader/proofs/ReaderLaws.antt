@@ -19,26 +19,23 @@ use Rattle.list_checked_cursor.specs.Anywhere.{readAt, movedAt}
 use Rattle.list_reader.specs.declared.Place.{Place}
 use Rattle.list_reader.specs.declared.Step.{Step}
 use Rattle.list_reader.specs.declared.Step.the-variants.{Chunk, End}
-use Rattle.list_reader.specs.declared.Opening.the-variants.{Accepted as Opening-accepted, Refused as Opening-refused}
-use Rattle.list_reader.specs.Reading.{openingIn, openingOf, firstPlace, stepIn, stepAt, placeAfter}
+use Rattle.list_reader.specs.declared.Opening.{Opening}
+use Rattle.list_reader.specs.Reading.{openingOf, stepIn, stepAt, placeAfter}
 use Rattle.list_reader.specs.Agree.{placeBefore}
 use Rattle.list_reader.specs.laws.Agree.{given-below, ended-behind, number-small}
 
 -- by the verdict of the check
 
-module _ (s : List ℕ) (v : Verdict) (d : v ≡ checkOf s) where
-  pub opening-accepted : (n a t : ℕ) → v ≡ Accepted n a t → Opening-accepted ≡ openingOf s
-  opening-accepted n a t e = ap openingIn (sym e ∙ d)
+module _ (s : List ℕ) (v : Verdict) (d : v ≡ checkOf s) (c : Cursor) (f : c ≡ firstCursor) where
+  pub opening-accepted :
+      (n a t : ℕ) → v ≡ Accepted n a t →
+      _≡_ {A = Opening} (record { place = record { cursor = c; chunks = n }; refusal = record { number = 0; place = 0 } }) (openingOf s)
+  opening-accepted n a t e = rw (f, sym d ∙ e)
 
-  pub opening-refused : (k p : ℕ) → v ≡ Verdict-refused k p → Opening-refused k p ≡ openingOf s
-  opening-refused k p e = ap openingIn (sym e ∙ d)
-
-  module _ (c : Cursor) (f : c ≡ firstCursor) where
-    pub first-accepted : (n a t : ℕ) → v ≡ Accepted n a t → record { cursor = c; chunks = n } ≡ firstPlace s
-    first-accepted n a t e = rw (f, sym d ∙ e)
-
-    pub first-refused : (k p : ℕ) → v ≡ Verdict-refused k p → record { cursor = c; chunks = 0 } ≡ firstPlace s
-    first-refused k p e = rw (f, sym d ∙ e)
+  pub opening-refused :
+      (k p : ℕ) → v ≡ Verdict-refused k p →
+      _≡_ {A = Opening} (record { place = record { cursor = c; chunks = 0 }; refusal = record { number = k; place = p } }) (openingOf s)
+  opening-refused k p e = rw (f, sym d ∙ e)
 
 -- at a place
 
@@ -59,7 +56,7 @@ module _ (s : List ℕ) (p : Place) where
     pub after-more : (c : Cursor) → c ≡ movedAt s (p .cursor) → record { cursor = c; chunks = p .chunks } ≡ placeAfter s p
     after-more c d = rw (lt-leb (p .chunks) (p .cursor .number) h) (ap (λ (x : Cursor). record { cursor = x; chunks = p .chunks }) d)
 
-pub ruleset reader-laws = (opening-accepted, opening-refused, first-accepted, first-refused, step-last, after-last, step-chunk, step-none, after-more)
+pub ruleset reader-laws = (opening-accepted, opening-refused, step-last, after-last, step-chunk, step-none, after-more)
 
 -- reading to the end: p is the place after n steps
 
@@ -68,9 +65,9 @@ pub record Counting (s : List ℕ) (p : Place) (n : ℕ) : Type 0 where
   pub place : p ≡ placeBefore s n
   pub below : n ≤ countOf s
 
-pub count-start : (s : List ℕ) (p : Place) → Bytes s → p ≡ firstPlace s → Counting s p 0
+pub count-start : (s : List ℕ) (o : Opening) → Bytes s → o ≡ openingOf s → Counting s (o .place) 0
 unfolding placeBefore
-count-start s p b e = record { bytes = b; place = e; below = omega arith }
+count-start s o b e = record { bytes = b; place = ap (λ (x : Opening). x .place) e; below = omega arith }
 
 module _ (s : List ℕ) (p : Place) (n : ℕ) (h : Counting s p n) (x : Step) (d : x ≡ stepAt s p) where
   pub count-done : x ≡ End → n ≡ countOf s

@@ -11,26 +11,29 @@ use Rattle.list_spec.specs.declared.Listed.the-variants.{Chunk as Listed-chunk,
 use Rattle.list_cursor.specs.Cursors.{firstCursor}
 use Rattle.list_checked_cursor.specs.Anywhere.{readAt, movedAt}
 use Rattle.list_reader.specs.declared.Place.{Place}
+use Rattle.list_reader.specs.declared.Refusal.{Refusal}
 use Rattle.list_reader.specs.declared.Step.{Step}
 use Rattle.list_reader.specs.declared.Step.the-variants.{Chunk, End}
 use Rattle.list_reader.specs.declared.Opening.{Opening}
-use Rattle.list_reader.specs.declared.Opening.the-variants.{Accepted as Opening-accepted, Refused as Opening-refused}
 
--- "The structure refusal, if any, is told when the reader is made"
-abbrev pub openingIn : Verdict → Opening
-openingIn (Accepted n e t) = Opening-accepted
-openingIn (Verdict-refused k p) = Opening-refused k p
+-- "The structure refusal, if any, is told when the reader is made": its number and place, 0 and 0 if there is none
+abbrev pub refusalIn : Verdict → Refusal
+refusalIn (Accepted n e t) = record { number = 0; place = 0 }
+refusalIn (Verdict-refused k p) = record { number = k; place = p }
 
-abbrev pub openingOf : List ℕ → Opening
-openingOf s = openingIn (checkOf s)
-
--- how many chunks there are to read: in a refused file none
+-- how many chunks there are to read: in a refused file none, "and such a reader gives only "end""
 abbrev pub chunksIn : Verdict → ℕ
 chunksIn (Accepted n e t) = n
 chunksIn (Verdict-refused k p) = 0
 
+abbrev pub openingIn : Verdict → Opening
+openingIn v = record { place = record { cursor = firstCursor; chunks = chunksIn v }; refusal = refusalIn v }
+
+abbrev pub openingOf : List ℕ → Opening
+openingOf s = openingIn (checkOf s)
+
 abbrev pub firstPlace : List ℕ → Place
-firstPlace s = record { cursor = firstCursor; chunks = chunksIn (checkOf s) }
+firstPlace s = openingOf s .place
 
 -- a record that is there, and the end where there is none
 abbrev pub stepIn : Listed → Step

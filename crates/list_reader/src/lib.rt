@@ -1,12 +1,12 @@
 // Reading a file record by record, as functions of the file and a place in it. They ask nothing of the place: any place gives a
 // record or the end.
+use iff_tree::Verdict;
 use list_cursor::Cursor;
 use list_spec::Listed;
 use list_spec::Record;
-use iff_tree::Verdict;
 ghost use mathlib.Core.Path.{_≡_};
 ghost use Rattle.list_spec.specs.Records.{countOf};
-ghost use Rattle.list_reader.specs.Reading.{openingOf, firstPlace, stepAt, placeAfter};
+ghost use Rattle.list_reader.specs.Reading.{openingOf, stepAt, placeAfter};
 
 // Where a reader stands: the cursor at the next chunk, with the ends of the groups around it, and how many chunks there are to read.
 pub struct Place {
@@ -20,30 +20,21 @@ pub enum Step {
     End,
 }
 
-// What is told of the file when a reader is made.
-pub enum Opening {
-    Accepted,
-    Refused { number: usize, place: usize },
+// The number and place of a file's structure refusal; 0 and 0 if it is accepted.
+pub struct Refusal {
+    pub number: usize,
+    pub place: usize,
 }
 
-// The structure refusal of a file, if any.
+// What a reader of a file is made with: the place at the first chunk, and the structure refusal.
+pub struct Opening {
+    pub place: Place,
+    pub refusal: Refusal,
+}
+
+// What a reader of a file is made with, by one check; in a refused file there are no chunks to read.
 pub fn opening_of(s: &[u8]) -> Opening
     ensures { λ r. ⌜ r ≡ openingOf (now (s .entry)) ⌝ }
-{
-    let v = iff_tree::check(s);
-    match v {
-        Verdict::Accepted {
-            chunks: _,
-            end: _,
-            trailing: _,
-        } => Opening::Accepted,
-        Verdict::Refused { number, place } => Opening::Refused { number, place },
-    }
-}
-
-// The place at a file's first chunk; in a refused file there are none to read.
-pub fn first_place(s: &[u8]) -> Place
-    ensures { λ r. ⌜ r ≡ firstPlace (now (s .entry)) ⌝ }
 {
     let cursor = list_cursor::first();
     let v = iff_tree::check(s);
@@ -52,11 +43,25 @@ pub fn first_place(s: &[u8]) -> Place
             chunks,
             end: _,
             trailing: _,
-        } => Place { cursor, chunks },
-        Verdict::Refused {
-            number: _,
-            place: _,
-        } => Place { cursor, chunks: 0 },
+        } => {
+            let first = Place { cursor, chunks };
+            let refusal = Refusal {
+                number: 0,
+                place: 0,
+            };
+            Opening {
+                place: first,
+                refusal,
+            }
+        }
+        Verdict::Refused { number, place } => {
+            let nothing = Place { cursor, chunks: 0 };
+            let refusal = Refusal { number, place };
+            Opening {
+                place: nothing,
+                refusal,
+            }
+        }
     }
 }
 
@@ -97,7 +102,8 @@ pub fn place_after(s: &[u8], place: Place) -> Place
 pub fn count_by_reading(s: &[u8]) -> usize
     ensures { λ r. ⌜ r ≡ countOf (now (s .entry)) ⌝ }
 {
-    let mut place = first_place(s);
+    let opening = opening_of(s);
+    let mut place = opening.place;
     let mut n = 0usize;
     loop {
         let step = step_at(s, place);

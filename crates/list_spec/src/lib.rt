@@ -18,8 +18,10 @@ pub enum Listed {
     Refused { number: usize, place: usize },
 }
 
-// Where a chunk's data lies in the file, or the number and place of a refusal.
-pub enum Extent {
-    Data { from: usize, to: usize },
-    Refused { number: usize, place: usize },
+// Where a chunk's data lies in the file, with 0 and 0; or the number and place of a refusal, and then from 0 to 0.
+pub struct Extent {
+    pub number: usize,
+    pub place: usize,
+    pub from: usize,
+    pub to: usize,
 }

@@ -7,8 +7,11 @@ use Rattle.list_data.proofs.extent_in.Tie as tie
 is-group-requires : tie.Need-is-group-requires
 is-group-requires c κs = search needs
 
+no-extent-requires : tie.Need-no-extent-requires
+no-extent-requires c κs = tt
+
 returns : tie.Need-returns
-returns c = search needs
+returns c = search (extent-laws, needs)
 
 add-from : tie.Need-add-from
 add-from c = search needs
@@ -20,4 +23,4 @@ returns-2 : tie.Need-returns-2
 returns-2 c = search (extent-laws, needs)
 
 pub extent-in-spec : {M : Type 1} → statement M
-extent-in-spec = tie.close (tie.spec is-group-requires returns add-from add-t5 returns-2)
+extent-in-spec = tie.close (tie.spec is-group-requires no-extent-requires returns add-from add-t5 returns-2)

@@ -35,7 +35,7 @@ use Rattle.list_file_reader.specs.declared.Reader.{Reader}
 use Rattle.list_reader.specs.declared.Step.{Step}
 use Rattle.list_file_reader.proofs.Reader as T
 use Rattle.list_file_reader.proofs.Reader.Laws as T′
-use Rattle.list_file_reader.proofs.Held.{file-val, place-val, B, mach, Own, Parts, handed, whole-typed, place-typed}
+use Rattle.list_file_reader.proofs.Held.{file-val, place-val, B, mach, Own, Parts, handed, whole-typed, place-typed, place-shown}
 use Rattle.list_reader.proofs.Step as S
 use Rattle.list_reader.proofs.Step.Laws as S′
 use Rattle.list_reader.proofs.step_at as step
@@ -90,7 +90,7 @@ module _ {M : Type 1} (𝓤 : URA M) (H : Heap 𝓤) (A : Atoms 𝓤) (W : Given
         qed W (raw (onEntry 𝓤 H A next.signature (κ, tt) (q, tt) (d, tt) (mach κ d ∷ [], tt)) ∷ []) ∵ enter ! C Λ code.function (mach κ d ∷ []) _ $
         alloc1 ! (λ l₀. alloc1 ! (λ l₁. alloc1 ! (λ l₂. alloc1 ! (λ l₃. alloc0 ! $ params1 ! $ pass1 ! (init ! 4 refl wt) $ pass0 ! $
         assigns ! (of-opd ! (load ! (from ! (fld ! refl (stop !))) (look-in ! 4 (sub ! 0 refl (whole !))))) (from ! (stop !)) (init ! 2 refl (tt, wt .1 .0)) $
-        assigns ! (of-opd ! (load ! (from ! (fld ! refl (stop !))) (look-in ! 4 (sub ! 1 refl (whole !))))) (from ! (stop !)) (init ! 0 refl (place-typed κ 𝓤 H A W d is)) $
+        assigns ! (of-opd ! (load ! (from ! (fld ! refl (stop !))) (look-in ! 4 (sub ! 1 refl (whole !))))) (from ! (stop !)) (init ! 0 refl (place-typed 𝓤 H A W (d .place) _ (place-shown κ 𝓤 H A W d is))) $
         move ! (8 ∷ []) $ use1 W (raw (StepAt 𝓤 H A mem run .pre to) ⊛ ‵ (Own κ d)) asked $ split ! $
         calls-at ! fm (StepAt 𝓤 H A mem run) known to (and-then ! (load ! (from ! (stop !)) (look ! 4 refl)) (and-then ! (load ! (from ! (stop !)) (look ! 2 refl)) (no-more !))) (λ w.
         use1 W (later (some (λ (r : Step). ((‵ (flft κ q) ⊛ ‵ ftrue) ⊛ ‵ (S.the-row .own r (w ∷ []))) ⊛ raw (ensured 𝓤 H A step.ended (step.clauses 𝓤 H A mem run) (κ, tt) (d .file, (d .place, tt)) tt r)))) (id⊢ 𝓤 _) $ await ! tt $ pick ! (λ r.

@@ -14,12 +14,12 @@ Inv-loop s place₀ n₀ place n = Counting s place n
 abbrev μ-loop : tie.MeasureT-loop
 μ-loop s place₀ n₀ place n = countOf s - n
 
-first-place-requires : tie.Need-first-place-requires Inv-loop μ-loop
-first-place-requires c κs = search (count-laws, needs)
+opening-of-requires : tie.Need-opening-of-requires Inv-loop μ-loop
+opening-of-requires c κs = search (count-laws, needs)
 
 loop-holds : tie.Need-loop-holds Inv-loop μ-loop
 loop-holds c =
-    let k = c .before in
+    let k = c .before .before in
     let b : Bytes (k .before .args .s .now) = λ i. omega (arith, k .shared-slice-known .given i) in
     search (count-laws, needs)
 
@@ -53,7 +53,7 @@ count-by-reading-spec =
     (tie.spec
     Inv-loop
     μ-loop
-    first-place-requires
+    opening-of-requires
     loop-holds
     step-at-requires
     enum-told

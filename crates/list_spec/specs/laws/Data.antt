@@ -17,9 +17,8 @@ use Rattle.iff_grammar.specs.Accept.{sound}
 use Rattle.list_spec.specs.declared.Record.{Record}
 use Rattle.list_spec.specs.declared.Listed.{Listed}
 use Rattle.list_spec.specs.declared.Listed.the-variants.{Chunk as Listed-chunk, Refused}
-use Rattle.list_spec.specs.declared.Extent.the-variants.{Data, Refused as Extent-refused}
 use Rattle.list_spec.specs.Records.{recordsFrom, pickRecord, recordIn, recordOf}
-use Rattle.list_spec.specs.Contents.{Content, plain, members, contentsFrom, pickData, dataIn, dataOf, extentAt, extentIn, extentOf}
+use Rattle.list_spec.specs.Contents.{Content, plain, members, contentsFrom, pickData, dataIn, dataOf, extentAt, extentIn, extentOf, Lies}
 
 -- the chunk of a record lies in the file
 abbrev pub Inside : List ℕ → Record → Type 0
@@ -89,39 +88,21 @@ file-tells s b i = go (readFile s) refl
         (hold-from s (g .1 .short) (before c none) 1 0 0 (g .0) (members-regular _ _ (before c none) (g .1 .tree)) (g .1 .whole)) i
     go (refused k p) e = refl
 
--- where the data lies by the listing
-pub record Lies (s : List ℕ) (a b : ℕ) (d : List ℕ) : Type 0 where
-  pub order : a ≤ b
-  pub inside : b ≤ length s
-  pub same : slice a b s ≡ d
-
--- The part that the extent names is the chunk's data, and there is no data with a refusal.
-pub extent-data : (s : List ℕ) → Bytes s → (i a b : ℕ) → extentOf s i ≡ Data a b → Lies s a b (dataOf s i)
-extent-data s c i a b e = go (recordOf s i) (file-tells s c i) e
+-- The part that the extent names is the chunk's data, and it is the empty part with a refusal.
+pub extent-lies : (s : List ℕ) → Bytes s → (i : ℕ) → Lies s (extentOf s i .from) (extentOf s i .to) (dataOf s i)
+extent-lies s c i = go (recordOf s i) (file-tells s c i)
   where
-    at-chunk : (r : Record) (g : Bool) → isGroup (r .kind) ≡ g → Tells s (Listed-chunk r) (dataOf s i)
-        → extentAt g r ≡ Data a b → Lies s a b (dataOf s i)
-    at-chunk r true x t y = let z : _≡_ {A = ℕ} 0 1 = cc in absurd (omega arith)
-    at-chunk r false x t y =
-        let from : r .place + 8 ≡ a = cc in
-        let to : r .place + 8 + r .size ≡ b = cc in
-        record { order = omega arith; inside = omega (arith, t .0 .0); same = rw (← from, ← to) (t .1 x) }
+    nothing : (d : List ℕ) → d ≡ [] → Lies s 0 0 d
+    nothing d e = record { order = omega arith; inside = omega arith; same = sym e }
 
-    go : (l : Listed) → Tells s l (dataOf s i) → extentIn l ≡ Data a b → Lies s a b (dataOf s i)
-    go (Listed-chunk r) t y = at-chunk r (isGroup (r .kind)) refl t y
-    go (Refused k p) t y = let z : _≡_ {A = ℕ} 0 1 = cc in absurd (omega arith)
+    at-chunk : (r : Record) (g : Bool) (d : List ℕ) → isGroup (r .kind) ≡ g → Tells s (Listed-chunk r) d
+        → Lies s (extentAt g r .from) (extentAt g r .to) d
+    at-chunk r true d x t = nothing d (t .2 x)
+    at-chunk r false d x t = record { order = omega arith; inside = t .0 .0; same = t .1 x }
 
-pub extent-none : (s : List ℕ) → Bytes s → (i k p : ℕ) → extentOf s i ≡ Extent-refused k p → dataOf s i ≡ []
-extent-none s c i k p e = go (recordOf s i) (file-tells s c i) e
-  where
-    at-chunk : (r : Record) (g : Bool) → isGroup (r .kind) ≡ g → Tells s (Listed-chunk r) (dataOf s i)
-        → extentAt g r ≡ Extent-refused k p → dataOf s i ≡ []
-    at-chunk r true x t y = t .2 x
-    at-chunk r false x t y = let z : _≡_ {A = ℕ} 0 1 = cc in absurd (omega arith)
-
-    go : (l : Listed) → Tells s l (dataOf s i) → extentIn l ≡ Extent-refused k p → dataOf s i ≡ []
-    go (Listed-chunk r) t y = at-chunk r (isGroup (r .kind)) refl t y
-    go (Refused m q) t y = t
+    go : (l : Listed) → Tells s l (dataOf s i) → Lies s (extentIn l .from) (extentIn l .to) (dataOf s i)
+    go (Listed-chunk r) t = at-chunk r (isGroup (r .kind)) (dataOf s i) refl t
+    go (Refused k p) t = nothing (dataOf s i) t
 
 -- the record of a chunk names bytes of the file
 pub record-inside : (s : List ℕ) → Bytes s → (i : ℕ) (r : Record) → Listed-chunk r ≡ recordOf s i → Inside s r
