@@ -9,11 +9,9 @@ use Rattle.iff_copy.specs.Clean.{copyOf}
 use Rattle.iff_copy.specs.declared.Copied.the-variants.{Refused as Copy-refused}
 use Rattle.list_spec.specs.Records.{recordOf}
 use Rattle.list_spec.specs.declared.Listed.the-variants.{Refused as Record-refused}
-use Rattle.list_spec.specs.Contents.{extentOf}
-use Rattle.list_spec.specs.declared.Extent.the-variants.{Refused as Data-refused}
+use Rattle.list_spec.specs.Contents.{dataAnswer}
 use Rattle.list_capacity.specs.Room.{answerOf}
 use Rattle.list_reader.specs.Reading.{openingOf}
-use Rattle.list_reader.specs.declared.Opening.the-variants.{Refused as Reader-refused}
 use Rattle.ilbm_count.specs.Count.{countOf}
 use Rattle.ilbm_count.specs.declared.Counted.the-variants.{Refused as Count-refused}
 use Rattle.ilbm_spec.specs.declared.BitmapHeader.{BitmapHeader}
@@ -29,15 +27,15 @@ use Rattle.write_picture.specs.declared.WriteAnswer.the-variants.{Refused as Wr
 use Rattle.theorem_demands.specs.Numbers.{OneOf, structural, ofRecord, ofData, ofTable, ofCopy, ofPicture, ofLine, ofFrame, ofPacking, ofWriting}
 
 -- The exported calls on a file or a chunk each have a line here, those on a picture's properties one together (`ilbm_header`, `ilbm_grab`,
--- `ilbm_dest`, `ilbm_sprite`, `ilbm_view_mode`): they tell the number and the place of this answer, and 0 where it is no refusal. So do the
--- palette's call and the packer's themselves.
+-- `ilbm_dest`, `ilbm_sprite`, `ilbm_view_mode`): they tell the number and the place of this answer, and 0 where it is no refusal. So do
+-- themselves the calls on a chunk's data, on the palette, of the reader and of the packer.
 pub record Refusals : Type 0 where
   pub check : (s : List ℕ) (k p : ℕ) → checkOf s ≡ Refused k p → OneOf structural k p
   pub clean-copy : (s : List ℕ) (room k p : ℕ) → copyOf s room ≡ Copy-refused k p → OneOf ofCopy k p
   pub record-by-number : (s : List ℕ) (i k p : ℕ) → recordOf s i ≡ Record-refused k p → OneOf ofRecord k p
-  pub chunk-data : (s : List ℕ) (i k p : ℕ) → extentOf s i ≡ Data-refused k p → OneOf ofData k p
+  pub chunk-data : (s : List ℕ) (i : ℕ) → let a = dataAnswer s i in OneOf (0 ∷ ofData) (a .number) (a .place)
   pub table : (s : List ℕ) (room k p : ℕ) → answerOf room (checkOf s) ≡ Refused k p → OneOf ofTable k p
-  pub reader : (s : List ℕ) (k p : ℕ) → openingOf s ≡ Reader-refused k p → OneOf structural k p
+  pub reader : (s : List ℕ) → let a = openingOf s .refusal in OneOf (0 ∷ structural) (a .number) (a .place)
   pub picture-count : (s : List ℕ) (k p : ℕ) → countOf s ≡ Count-refused k p → OneOf structural k p
   pub properties : (s : List ℕ) (i k p : ℕ) → pictureOf s i ≡ Picture-refused k p → OneOf ofPicture k p
   pub palette :

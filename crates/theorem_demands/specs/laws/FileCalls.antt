@@ -18,13 +18,10 @@ use Rattle.list_spec.specs.declared.Record.{Record}
 use Rattle.list_spec.specs.declared.Listed.{Listed}
 use Rattle.list_spec.specs.declared.Listed.the-variants.{Chunk as Listed-chunk, Refused as Record-refused}
 use Rattle.list_spec.specs.declared.Extent.{Extent}
-use Rattle.list_spec.specs.declared.Extent.the-variants.{Data, Refused as Data-refused}
 use Rattle.list_spec.specs.Records.{recordsOf, pickRecord, recordIn, recordOf}
-use Rattle.list_spec.specs.Contents.{extentAt, extentIn, extentOf}
+use Rattle.list_spec.specs.Contents.{extentAt, extentIn, dataAnswer}
 use Rattle.list_capacity.specs.Room.{answerOf}
-use Rattle.list_reader.specs.declared.Opening.{Opening}
-use Rattle.list_reader.specs.declared.Opening.the-variants.{Accepted as Reader-accepted, Refused as Reader-refused}
-use Rattle.list_reader.specs.Reading.{openingIn, openingOf}
+use Rattle.list_reader.specs.Reading.{refusalIn, openingOf}
 use Rattle.ilbm_count.specs.declared.Counted.{Counted}
 use Rattle.ilbm_count.specs.declared.Counted.the-variants.{Pictures, Refused as Count-refused}
 use Rattle.ilbm_count.specs.Count.{countIn, countOf}
@@ -61,16 +58,13 @@ table-by room (Refused k p) i = with-others ofTable k p refl i
 pub table : (s : List ℕ) (room k p : ℕ) → answerOf room (checkOf s) ≡ Refused k p → OneOf ofTable k p
 table s room k p e = subst (Verdict-by ofTable) e (table-by room (checkOf s) (check-by s (readFile s) (file-refuses s)))
 
-abbrev Opening-by : Opening → Type 0
-Opening-by Reader-accepted = Unit {0}
-Opening-by (Reader-refused k p) = OneOf structural k p
+refusal-by : (v : Verdict) → Verdict-by structural v → let a = refusalIn v in OneOf (0 ∷ structural) (a .number) (a .place)
+unfolding within among
+refusal-by (Accepted n e t) i = (refl, refl)
+refusal-by (Refused k p) i = widened {A = Chunk} structural (0 ∷ structural) refl (refused k p) i
 
-opening-by : (v : Verdict) → Verdict-by structural v → Opening-by (openingIn v)
-opening-by (Accepted n e t) i = tt
-opening-by (Refused k p) i = i
-
-pub reader : (s : List ℕ) (k p : ℕ) → openingOf s ≡ Reader-refused k p → OneOf structural k p
-reader s k p e = subst Opening-by e (opening-by (checkOf s) (check-by s (readFile s) (file-refuses s)))
+pub reader : (s : List ℕ) → let a = openingOf s .refusal in OneOf (0 ∷ structural) (a .number) (a .place)
+reader s = refusal-by (checkOf s) (check-by s (readFile s) (file-refuses s))
 
 -- ---- the clean copy and the count of pictures
 
@@ -123,18 +117,17 @@ pub record-by-number : (s : List ℕ) (i k p : ℕ) → recordOf s i ≡ Record-
 record-by-number s i k p e = subst Listed-by e (record-by (readFile s) i (file-refuses s))
 
 abbrev Extent-by : Extent → Type 0
-Extent-by (Data a b) = Unit {0}
-Extent-by (Data-refused k p) = OneOf ofData k p
+Extent-by x = OneOf (0 ∷ ofData) (x .number) (x .place)
 
 group-by : (b : Bool) (r : Record) → Extent-by (extentAt b r)
 unfolding among
 group-by true r = (refl, refl)
-group-by false r = tt
+group-by false r = (refl, refl)
 
 data-by : (l : Listed) → Listed-by l → Extent-by (extentIn l)
 unfolding within among
 data-by (Listed-chunk r) i = group-by (isGroup (r .kind)) r
-data-by (Record-refused k p) i = widened {A = Chunk} ofRecord ofData refl (refused k p) i
+data-by (Record-refused k p) i = widened {A = Chunk} ofRecord (0 ∷ ofData) refl (refused k p) i
 
-pub chunk-data : (s : List ℕ) (i k p : ℕ) → extentOf s i ≡ Data-refused k p → OneOf ofData k p
-chunk-data s i k p e = subst Extent-by e (data-by (recordOf s i) (record-by (readFile s) i (file-refuses s)))
+pub chunk-data : (s : List ℕ) (i : ℕ) → let a = dataAnswer s i in OneOf (0 ∷ ofData) (a .number) (a .place)
+chunk-data s i = data-by (recordOf s i) (record-by (readFile s) i (file-refuses s))

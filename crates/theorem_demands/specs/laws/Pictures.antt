@@ -12,7 +12,7 @@ use Rattle.byterun_row.specs.ByteRun.{Row, filled, over, short}
 use Rattle.ilbm_spec.specs.declared.BitmapHeader.{BitmapHeader}
 use Rattle.ilbm_spec.specs.Contents.{Content, contentsOf}
 use Rattle.ilbm_spec.specs.Pictures.{Viewed, headerRefusal, pictureRefusal, judged, pickContent, viewIn, viewOf}
-use Rattle.ilbm_spec.specs.Rows.{Read, thenRead, rowRead, rowsFrom, lineFrom, linesFrom, onBody, askRows, lineOf, leftover, frameOf}
+use Rattle.ilbm_spec.specs.Rows.{Read, thenRead, rowRead, rowsFrom, lineBy, linesBy, leftover, onBody, askRows, lineOf, frameOf}
 use Rattle.theorem_demands.specs.Numbers.{structural, ofPicture, ofRows, ofLine, ofFrame, among, OneOf}
 use Rattle.theorem_demands.specs.laws.Numbers.{Refuses, without-place, choice-refuses, within, widened}
 use Rattle.theorem_demands.specs.laws.Structure.{file-refuses}
@@ -77,14 +77,17 @@ rows-refuse compression body n (suc rows) at =
     let rest : (q : ℕ) → Refuses ofRows (rowsFrom compression body n rows q) = λ q. rows-refuse compression body n rows q in
     search (read-refuses, row-refuses, rest)
 
-line-refuses : (b : BitmapHeader) (body : List ℕ) (at : ℕ) → Refuses ofRows (lineFrom b body at)
-line-refuses b body at = search (read-refuses, rows-refuse)
+line-refuses :
+    (compression w planes rows : ℕ) (body : List ℕ) (at : ℕ) → Refuses ofRows (lineBy compression w planes rows body at)
+line-refuses compression w planes rows body at = search (read-refuses, rows-refuse)
 
-lines-refuse : (b : BitmapHeader) (body : List ℕ) (lines at : ℕ) → Refuses ofRows (linesFrom b body lines at)
-unfolding linesFrom
-lines-refuse b body zero at = tt
-lines-refuse b body (suc lines) at =
-    let rest : (q : ℕ) → Refuses ofRows (linesFrom b body lines q) = λ q. lines-refuse b body lines q in
+lines-refuse :
+    (compression w planes rows : ℕ) (body : List ℕ) (lines at : ℕ) → Refuses ofRows (linesBy compression w planes rows body lines at)
+unfolding linesBy
+lines-refuse compression w planes rows body zero at = tt
+lines-refuse compression w planes rows body (suc lines) at =
+    let rest : (q : ℕ) → Refuses ofRows (linesBy compression w planes rows body lines q) =
+    λ q. lines-refuse compression w planes rows body lines q in
     search (read-refuses, line-refuses, rest)
 
 -- ---- rows asked of a picture
@@ -105,13 +108,16 @@ leftover-refuses : (numbers : List ℕ) (n : ℕ) (x : Read (List ℕ)) → Refu
 leftover-refuses numbers n (found (cs, q)) i = tt
 leftover-refuses numbers n (refused k p) i = i
 
-of-line : (b : BitmapHeader) (body : List ℕ) (at : ℕ) → Refuses ofLine (lineFrom b body at)
+of-line : (compression w planes rows : ℕ) (body : List ℕ) (at : ℕ) → Refuses ofLine (lineBy compression w planes rows body at)
 unfolding within among
-of-line b body at = widened ofRows ofLine refl (lineFrom b body at) (line-refuses b body at)
+of-line compression w planes rows body at =
+    widened ofRows ofLine refl (lineBy compression w planes rows body at) (line-refuses compression w planes rows body at)
 
-of-lines : (b : BitmapHeader) (body : List ℕ) (lines at : ℕ) → Refuses ofFrame (linesFrom b body lines at)
+of-lines :
+    (compression w planes rows : ℕ) (body : List ℕ) (lines at : ℕ) → Refuses ofFrame (linesBy compression w planes rows body lines at)
 unfolding within among
-of-lines b body lines at = widened ofRows ofFrame refl (linesFrom b body lines at) (lines-refuse b body lines at)
+of-lines compression w planes rows body lines at =
+    widened ofRows ofFrame refl (linesBy compression w planes rows body lines at) (lines-refuse compression w planes rows body lines at)
 
 pub scan-line-refuses : (s : List ℕ) (i start room : ℕ) → Refuses ofLine (lineOf s i start room)
 unfolding within among

@@ -1,6 +1,6 @@
 -- A file is refused by one of 1 to 12: each check of a header has one of 3 to 12, which are told with the chunk's place, and the walk over
 -- the chunks passes a refusal on. What the file itself is refused with has place 0.
-use Prim.Native.Nat.{ℕ, zero, suc, _+_, _-_}
+use Prim.Native.Nat.{ℕ, zero, suc}
 use mathlib.Core.Path.{_≡_, refl}
 use mathlib.Core.Bool.{Bool, true, false}
 use mathlib.Core.List.{List, [], _∷_}
@@ -9,10 +9,10 @@ use Rattle.iff_name.specs.declared.Kind.{Kind}
 use Rattle.iff_rules.specs.declared.Position.{Position}
 use Rattle.iff_header.specs.declared.Header.{Header}
 use Rattle.iff_header.specs.declared.Header.the-variants.{Refused as Header-refused, Leaf, Group}
-use Rattle.iff_chunk.specs.Chunks.{Chunks, Chunk, word, nextAt, aGroup}
-use Rattle.iff_rules.specs.Rules.{inside, after}
+use Rattle.iff_chunk.specs.Chunks.{Chunks, Chunk, word, nextAt}
+use Rattle.iff_rules.specs.Rules.{after}
 use Rattle.iff_header.specs.Checks.{groupHeaderOf, headerOf}
-use Rattle.iff_tree.specs.Judge.{Found, found, refused, run, byHeader, chunkAt, readFile}
+use Rattle.iff_tree.specs.Judge.{Found, refused, run, byHeader, chunkAt, readFile}
 use Rattle.theorem_demands.specs.Numbers.{structural, placed, among}
 use Rattle.theorem_demands.specs.laws.Numbers.{Refuses, choice-refuses, then-refuses, within, among-within}
 
@@ -63,7 +63,8 @@ chunk-refuses : (levels : ℕ) (s : List ℕ) (from : ℕ) (w : Position) (p e :
 unfolding chunkAt among
 chunk-refuses zero s from w p e = search (by-header-refuses, header-refuses)
 chunk-refuses (suc levels) s from w p e =
-    let below : (f : ℕ) (v : Position) (a b : ℕ) → Refuses structural (chunkAt levels s f v a b) = λ f v a b. chunk-refuses levels s f v a b in
+    let below : (f : ℕ) (v : Position) (a b : ℕ) → Refuses structural (chunkAt levels s f v a b) =
+    λ f v a b. chunk-refuses levels s f v a b in
     search (by-header-refuses, header-refuses, run-refuses, below)
 
 pub file-refuses : (s : List ℕ) → Refuses structural (readFile s)
