@@ -77,17 +77,6 @@ bytesAfter (filled bs q) old = bs
 bytesAfter (over q) old = old
 bytesAfter (short q) old = old
 
--- the number of an answer, 0 for a full row, and its place: the next row's start, or where the fault is
-abbrev pub rowNumber : RowAnswer → ℕ
-rowNumber (Full q) = 0
-rowNumber (Oversteps q) = 27
-rowNumber (Ends q) = 26
-
-abbrev pub rowPlace : RowAnswer → ℕ
-rowPlace (Full q) = q
-rowPlace (Oversteps q) = q
-rowPlace (Ends q) = q
-
 -- a row that was read whole
 abbrev pub IsFull : Row → Type 0
 IsFull (filled bs q) = Unit

@@ -6,7 +6,7 @@ use mathlib.Core.Logic.{_↔_}
 use lib.ListN.{length, take}
 use Rattle.iff_chunk.specs.Chunks.{Chunk, before, none, bytes, count}
 use Rattle.iff_tree.specs.Judge.{checkOf}
-use Rattle.iff_tree.specs.declared.Verdict.the-variants.{Accepted, Refused}
+use Rattle.iff_tree.specs.declared.Verdict.the-variants.{Accepted}
 use Rattle.iff_grammar.specs.Words.{Bytes}
 use Rattle.iff_grammar.specs.Grammar.{ChunkFile}
 use Rattle.iff_grammar.specs.Accept as Accept
@@ -29,14 +29,14 @@ use Rattle.theorem_roundtrip.specs.Header.{InRange}
 use Rattle.theorem_roundtrip.specs.RoundTrip as RoundTrip
 use Rattle.theorem_additions.specs.Statement as Statement
 use Rattle.theorem_additions.specs.Demand3 as Additions
-use Rattle.theorem_demands.specs.Numbers.{Structural}
-use Rattle.theorem_demands.specs.laws.Numbers as Numbers
+use Rattle.theorem_demands.specs.Refusals.{Refusals}
+use Rattle.theorem_demands.specs.laws.Refusals as Calls
 use Rattle.theorem_demands.specs.Listings as Listings
 
--- Demand 1. Any bytes may be handed to the check, and a refusal has one of the numbers 1 to 12. That every call ends, stays inside
--- what it was lent and answers by these definitions is what its proved contract says.
-pub refused-by-number : (s : List ℕ) (k p : ℕ) → checkOf s ≡ Refused k p → Structural k
-refused-by-number = Numbers.refusals
+-- Demand 1. Any bytes may be handed to any public call, and what it refuses with is one of the numbers that 01 gives for this call. That
+-- every call ends, stays inside what it was lent and answers by these definitions is what its proved contract says.
+pub refused-by-number : Refusals
+refused-by-number = Calls.refusals
 
 -- Demand 2. A file is accepted exactly if it is a chunk tree and then trailing bytes, within the limits of length and nesting; and
 -- the counts that are told are the tree's.

@@ -1,4 +1,5 @@
 pub mod Numbers
+pub mod Refusals
 pub mod Examples
 pub mod Listings
 pub mod Demands

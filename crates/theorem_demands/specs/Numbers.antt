@@ -1,18 +1,62 @@
--- The check answers with the numbers 1 to 12 alone: each line of the table has one of them, and the walk passes it on.
-use Prim.Native.Nat.{ℕ, _≤_}
-use Rattle.iff_header.specs.declared.Header.{Header}
-use Rattle.iff_header.specs.declared.Header.the-variants.{Refused as Header-refused, Leaf, Group}
-use Rattle.iff_tree.specs.Judge.{Found, found, refused}
+-- 01's numbers: which of them each call may refuse with, and which are told with a place. Each set stands here alone.
+use Prim.Native.Nat.{ℕ}
+use mathlib.Core.Path.{_≡_}
+use mathlib.Core.Bool.{Bool, true, false}
+use mathlib.Core.List.{List, [], _∷_, _++_}
+use lib.Dec.{eqb}
+use Rattle.iff_name.specs.Name.{either}
 
--- one of 1 to 12
-abbrev pub Structural : ℕ → Type 0
-Structural k = (1 ≤ k) × (k ≤ 12)
+-- "Order of checks and numbers": the table, but for 13
+abbrev pub structural : List ℕ
+structural = 1 ∷ 2 ∷ 3 ∷ 4 ∷ 5 ∷ 6 ∷ 7 ∷ 8 ∷ 9 ∷ 10 ∷ 11 ∷ 12 ∷ []
 
-abbrev pub HeaderOk : Header → Type 0
-HeaderOk (Header-refused k) = Structural k
-HeaderOk (Leaf z) = Unit {0}
-HeaderOk (Group k z) = Unit {0}
+-- "1 to 12 come before 13, 14 and 15"; "one record asked by its number (14 if there is none)"
+abbrev pub ofRecord : List ℕ
+ofRecord = structural ++ (14 ∷ [])
 
-abbrev pub FoundOk : {A : Type 0} → Found A → Type 0
-FoundOk (found a) = Unit {0}
-FoundOk (refused k p) = Structural k
+-- "it gives 14 for no such record, 15 for a group"
+abbrev pub ofData : List ℕ
+ofData = structural ++ (14 ∷ 15 ∷ [])
+
+-- 13: "accepted, but the lent table has fewer places than chunks"
+abbrev pub ofTable : List ℕ
+ofTable = structural ++ (13 ∷ [])
+
+-- "Refusals 1 to 12, then 32."
+abbrev pub ofCopy : List ℕ
+ofCopy = structural ++ (32 ∷ [])
+
+-- "After the structure refusals, in this order": the table of "Pictures", as far as no rows are asked
+abbrev pub ofPicture : List ℕ
+ofPicture = structural ++ (20 ∷ 21 ∷ 22 ∷ 23 ∷ 24 ∷ [])
+
+-- "at one code byte 27 comes before 26"
+abbrev pub ofRows : List ℕ
+ofRows = 27 ∷ 26 ∷ []
+
+-- the rest of that table, where a scan line is asked; a frame has no start place, so no 29
+abbrev pub ofLine : List ℕ
+ofLine = ofPicture ++ (25 ∷ 29 ∷ 28 ∷ ofRows)
+
+abbrev pub ofFrame : List ℕ
+ofFrame = ofPicture ++ (25 ∷ 28 ∷ ofRows)
+
+-- "a row of 1 to 8,192 bytes (else 31)"; "32, here and everywhere"
+abbrev pub ofPacking : List ℕ
+ofPacking = 31 ∷ 32 ∷ []
+
+-- "Refusals in order: 33 .., 34 .., 35 .., 32."
+abbrev pub ofWriting : List ℕ
+ofWriting = 33 ∷ 34 ∷ 35 ∷ 32 ∷ []
+
+-- "A refusal returns the number and p (0 for 1, 2, 13 and every later number unless said below)"; "26 and 27 return the place"
+abbrev pub placed : List ℕ
+placed = 3 ∷ 4 ∷ 5 ∷ 6 ∷ 7 ∷ 8 ∷ 9 ∷ 10 ∷ 11 ∷ 12 ∷ 26 ∷ 27 ∷ []
+
+unfoldable pub among : ℕ → List ℕ → Bool
+among k [] = false
+among k (n ∷ ns) = either (eqb k n) (among k ns)
+
+-- A refusal by one of these numbers: k is one of them, and it is told with a place or p is 0.
+abbrev pub OneOf : List ℕ → ℕ → ℕ → Type 0
+OneOf numbers k p = (among k numbers ≡ true) × (either (among k placed) (eqb p 0) ≡ true)

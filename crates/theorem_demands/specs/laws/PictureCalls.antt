@@ -1,0 +1,99 @@
+-- The calls on a picture tell what the picture or its rows are refused with, and those that write choose among the numbers of their own.
+-- For each kind of answer: what it is that such an answer refuses by one of these numbers, and that the answer is one.
+use Prim.Native.Nat.{ℕ}
+use mathlib.Core.Path.{_≡_, refl, subst}
+use mathlib.Core.Bool.{Bool, true, false}
+use mathlib.Core.List.{List, _∷_}
+use Rattle.iff_name.specs.Name.{pick}
+use Rattle.iff_chunk.specs.Chunks.{Chunk}
+use Rattle.iff_tree.specs.Judge.{found, refused}
+use Rattle.ilbm_spec.specs.declared.BitmapHeader.{BitmapHeader}
+use Rattle.ilbm_spec.specs.declared.PictureAnswer.{PictureAnswer}
+use Rattle.ilbm_spec.specs.declared.PictureAnswer.the-variants.{Shown, Refused as Picture-refused}
+use Rattle.ilbm_spec.specs.declared.LineAnswer.{LineAnswer}
+use Rattle.ilbm_spec.specs.declared.LineAnswer.the-variants.{Next, Refused as Line-refused}
+use Rattle.ilbm_spec.specs.declared.FrameAnswer.{FrameAnswer}
+use Rattle.ilbm_spec.specs.declared.FrameAnswer.the-variants.{Leftover, Refused as Frame-refused}
+use Rattle.ilbm_spec.specs.Pictures.{Viewed, viewOf, pictureAnswer, pictureOf}
+use Rattle.ilbm_spec.specs.Palette.{answerIn, paletteAnswer}
+use Rattle.ilbm_spec.specs.Rows.{Read, lineAnswer, lineOf, frameAnswer, frameOf}
+use Rattle.byterun_pack.specs.declared.PackAnswer.{PackAnswer}
+use Rattle.byterun_pack.specs.declared.PackAnswer.the-variants.{Written as Packed, BadLength, NoRoom}
+use Rattle.byterun_pack.specs.Pack.{packNumber, packOf}
+use Rattle.write_picture.specs.declared.WriteAnswer.{WriteAnswer}
+use Rattle.write_picture.specs.declared.WriteAnswer.the-variants.{Written, Refused as Write-refused}
+use Rattle.write_picture.specs.Write.{writeOf}
+use Rattle.theorem_demands.specs.Numbers.{ofPicture, ofLine, ofFrame, ofPacking, ofWriting, among, OneOf}
+use Rattle.theorem_demands.specs.laws.Numbers.{Refuses, without-place, within, widened}
+use Rattle.theorem_demands.specs.laws.Pictures.{view-refuses, scan-line-refuses, frame-refuses}
+
+-- ---- a picture
+
+abbrev Picture-by : PictureAnswer → Type 0
+Picture-by (Shown c) = Unit {0}
+Picture-by (Picture-refused k p) = OneOf ofPicture k p
+
+picture-by : (v : Viewed) → Refuses ofPicture v → Picture-by (pictureAnswer v)
+picture-by (found c) i = tt
+picture-by (refused k p) i = i
+
+pub properties : (s : List ℕ) (i k p : ℕ) → pictureOf s i ≡ Picture-refused k p → OneOf ofPicture k p
+properties s i k p e = subst Picture-by e (picture-by (viewOf s i) (view-refuses s i))
+
+palette-by :
+    (v : Viewed) (default : List ℕ) → Refuses ofPicture v → let a = answerIn v default in OneOf (0 ∷ ofPicture) (a .number) (a .place)
+unfolding within among
+palette-by (found c) default i = (refl, refl)
+palette-by (refused k p) default i = widened {A = Chunk} ofPicture (0 ∷ ofPicture) refl (refused k p) i
+
+pub palette :
+    (s : List ℕ) (i : ℕ) (default : List ℕ) → let a = paletteAnswer s i default in OneOf (0 ∷ ofPicture) (a .number) (a .place)
+palette s i default = palette-by (viewOf s i) default (view-refuses s i)
+
+abbrev Line-by : LineAnswer → Type 0
+Line-by (Next q) = Unit {0}
+Line-by (Line-refused k p) = OneOf ofLine k p
+
+line-by : (r : Read (List ℕ)) → Refuses ofLine r → Line-by (lineAnswer r)
+line-by (found (cs, q)) i = tt
+line-by (refused k p) i = i
+
+pub line : (s : List ℕ) (i start room k p : ℕ) → lineAnswer (lineOf s i start room) ≡ Line-refused k p → OneOf ofLine k p
+line s i start room k p e = subst Line-by e (line-by (lineOf s i start room) (scan-line-refuses s i start room))
+
+abbrev Frame-by : FrameAnswer → Type 0
+Frame-by (Leftover n) = Unit {0}
+Frame-by (Frame-refused k p) = OneOf ofFrame k p
+
+frame-by : (r : Read (List ℕ)) → Refuses ofFrame r → Frame-by (frameAnswer r)
+frame-by (found (cs, n)) i = tt
+frame-by (refused k p) i = i
+
+pub frame : (s : List ℕ) (i room k p : ℕ) → frameAnswer (frameOf s i room) ≡ Frame-refused k p → OneOf ofFrame k p
+frame s i room k p e = subst Frame-by e (frame-by (frameOf s i room) (frame-refuses s i room))
+
+-- ---- writing
+
+pack-number : (a : PackAnswer) → OneOf (0 ∷ ofPacking) (packNumber a) 0
+unfolding among
+pack-number (Packed n) = (refl, refl)
+pack-number BadLength = (refl, refl)
+pack-number NoRoom = (refl, refl)
+
+pub pack : (row : List ℕ) (room : ℕ) → OneOf (0 ∷ ofPacking) (packNumber (packOf row room)) 0
+pack row room = pack-number (packOf row room)
+
+abbrev Written-by : WriteAnswer → Type 0
+Written-by (Written n) = Unit {0}
+Written-by (Write-refused k) = OneOf ofWriting k 0
+
+write-choice : (b : Bool) (k : ℕ) (a : WriteAnswer) → among k ofWriting ≡ true → Written-by a → Written-by (pick b (Write-refused k) a)
+write-choice true k a i j = without-place ofWriting k i
+write-choice false k a i j = j
+
+write-by : (b : BitmapHeader) (palette frame : List ℕ) (room : ℕ) → Written-by (writeOf b palette frame room)
+unfolding among
+write-by b palette frame room = search write-choice
+
+pub write : (b : BitmapHeader) (palette frame : List ℕ) (room k : ℕ) → writeOf b palette frame room ≡ Write-refused k → OneOf ofWriting k 0
+write b palette frame room k e = subst Written-by e (write-by b palette frame room)

@@ -1,0 +1,22 @@
+-- What each call refuses with, call by call.
+use Rattle.theorem_demands.specs.Refusals.{Refusals}
+use Rattle.theorem_demands.specs.laws.FileCalls as FileCalls
+use Rattle.theorem_demands.specs.laws.PictureCalls as PictureCalls
+
+pub refusals : Refusals
+refusals =
+    record {
+      check = FileCalls.check;
+      clean-copy = FileCalls.clean-copy;
+      record-by-number = FileCalls.record-by-number;
+      chunk-data = FileCalls.chunk-data;
+      table = FileCalls.table;
+      reader = FileCalls.reader;
+      picture-count = FileCalls.picture-count;
+      properties = PictureCalls.properties;
+      palette = PictureCalls.palette;
+      line = PictureCalls.line;
+      frame = PictureCalls.frame;
+      pack = PictureCalls.pack;
+      write = PictureCalls.write;
+    }
