@@ -59,7 +59,7 @@ pub fn data_extent(s: &[u8], number: usize) -> Extent
 }
 
 // The part of a file that an extent names.
-pub fn part_of(s: &[u8], x: Extent) -> &[u8]
+fn part_of(s: &[u8], x: Extent) -> &[u8]
     requires { ⌜ (x .from ≤ x .to) × (x .to ≤ length (now s)) ⌝ }
     ensures { λ r. ⌜ (now r ≡ take (x .to - x .from) (drop (x .from) (now (s .entry)))) ×
         (r .ptr ≡ (s .entry .ptr .0, x .from + s .entry .ptr .1)) ⌝ }
