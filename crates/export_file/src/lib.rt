@@ -1,8 +1,8 @@
 // The exported calls on a file as a whole: numbers and byte slices, each call a few lines over a proved one.
 // Each returns 0 or the number of a refusal; whatever else it tells is 0 beside a refusal, but its place.
 use iff_copy::Copied;
-use ilbm_count::Counted;
 use iff_tree::Verdict;
+use ilbm_count::Counted;
 ghost use mathlib.Core.Path.{_≡_};
 ghost use lib.ListN.{length};
 ghost use Rattle.iff_tree.specs.Judge.{checkOf};

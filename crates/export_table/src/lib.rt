@@ -56,7 +56,15 @@ pub extern "C" fn iff_records(
         (now (numbers .entry)) (now (levels .entry)) (now (kinds .entry)) (now (names .entry)) (now (places .entry)) (now (sizes .entry))
         (now (numbers .exit)) (now (levels .exit)) (now (kinds .exit)) (now (names .exit)) (now (places .exit)) (now (sizes .exit)) ⌝ }
 {
-    let numbers = answer_numbers(list_column_table::fill_table(file, numbers, levels, kinds, names, places, sizes));
+    let numbers = answer_numbers(list_column_table::fill_table(
+        file,
+        numbers,
+        levels,
+        kinds,
+        names,
+        places,
+        sizes,
+    ));
     *place = numbers.place;
     *chunks = numbers.chunks;
     numbers.number

@@ -2,10 +2,10 @@
 // look back from each.
 use iff_chunk::name_at;
 use iff_chunk::next_at;
-use iff_type_flags::fresh_in_class;
 use iff_name::Kind;
 use iff_name::Name;
 use iff_rules::Position;
+use iff_type_flags::fresh_in_class;
 ghost use mathlib.Core.Path.{_≡_};
 ghost use Prim.Native.Nat.{_+_, _-_, _≤_};
 ghost use lib.ListN.{length};

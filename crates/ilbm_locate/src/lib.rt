@@ -70,12 +70,30 @@ fn prop_scope(s: &[u8], q: usize, e: usize) -> Scope
 {
     let end = q + 8 + size_at(s, q + 4);
     let g = gather(s, q + 12, end, true);
-    let bmhd = Shared { prop: q, place: g.bmhd };
-    let cmap = Shared { prop: q, place: g.cmap };
-    let grab = Shared { prop: q, place: g.grab };
-    let dest = Shared { prop: q, place: g.dest };
-    let sprt = Shared { prop: q, place: g.sprt };
-    let camg = Shared { prop: q, place: g.camg };
+    let bmhd = Shared {
+        prop: q,
+        place: g.bmhd,
+    };
+    let cmap = Shared {
+        prop: q,
+        place: g.cmap,
+    };
+    let grab = Shared {
+        prop: q,
+        place: g.grab,
+    };
+    let dest = Shared {
+        prop: q,
+        place: g.dest,
+    };
+    let sprt = Shared {
+        prop: q,
+        place: g.sprt,
+    };
+    let camg = Shared {
+        prop: q,
+        place: g.camg,
+    };
     Scope {
         bmhd,
         cmap,

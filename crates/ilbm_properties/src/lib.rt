@@ -1,18 +1,18 @@
 // The picture call.
 use ilbm_content::Contents;
 use ilbm_content::Held;
+use ilbm_content::Part;
 use ilbm_fields::dest_fields;
 use ilbm_fields::grab_fields;
 use ilbm_fields::long_at;
 use ilbm_fields::word_at;
+use ilbm_find::View;
+use ilbm_find::view_picture;
 use ilbm_spec::BitmapHeader;
 use ilbm_spec::Destination;
 use ilbm_spec::HotSpot;
 use ilbm_spec::Picture;
 use ilbm_spec::PictureAnswer;
-use ilbm_content::Part;
-use ilbm_find::View;
-use ilbm_find::view_picture;
 ghost use mathlib.Core.Path.{_≡_};
 ghost use Rattle.ilbm_spec.specs.Pictures.{pictureOf};
 ghost use Rattle.ilbm_properties.specs.Fields.{OfSize, Judged, GrabIs, DestinationIs, WordIs, LongIs, PictureIs};

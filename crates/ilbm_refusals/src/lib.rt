@@ -1,10 +1,10 @@
 // The refusals of a picture by its content, 21 to 24.
 use ilbm_content::Contents;
 use ilbm_content::Held;
+use ilbm_content::Part;
 use ilbm_fields::bitmap_header;
 use ilbm_fields::no_header;
 use ilbm_spec::BitmapHeader;
-use ilbm_content::Part;
 ghost use mathlib.Core.Path.{_≡_};
 ghost use Rattle.ilbm_spec.specs.Pictures.{headerRefusal};
 ghost use Rattle.ilbm_refusals.specs.Refusals.{Sized, Full, SizeIs, TriplesIs, SizesAre, JudgementIs};

@@ -111,10 +111,6 @@ lineRead v start room = askRows v (λ b body. bodyLine body (b .w) (b .planes) (
 abbrev pub frameRead : Viewed → ℕ → Read (List ℕ)
 frameRead v room = askRows v (λ b body. bodyFrame body (b .w) (b .h) (b .planes) (b .masking) (b .compression) room)
 
--- a scan line of a BODY with this header
-abbrev pub lineFrom : BitmapHeader → List ℕ → ℕ → Read (List ℕ)
-lineFrom b body at = lineBy (b .compression) (b .w) (b .planes) (rowsInLine (b .planes) (b .masking)) body at
-
 -- what is told, and what stands in the lent row or frame afterwards: a refusal changes nothing
 abbrev pub lineAnswer : {A : Type 0} → Read A → LineAnswer
 lineAnswer (found (a, q)) = Next q

@@ -1,7 +1,7 @@
 // One record by its number.
+use iff_tree::Verdict;
 use list_spec::Listed;
 use list_spec::Record;
-use iff_tree::Verdict;
 ghost use mathlib.Core.Path.{_≡_};
 ghost use Prim.Native.Nat.{_<_};
 ghost use Rattle.list_spec.specs.declared.Listed.the-variants.{Chunk as Listed-chunk};

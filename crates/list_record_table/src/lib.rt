@@ -1,6 +1,6 @@
 // The table of a file's records as one lent slice of them, filled in file order.
-use list_spec::Record;
 use iff_tree::Verdict;
+use list_spec::Record;
 ghost use mathlib.Core.Path.{_≡_};
 ghost use Prim.Native.Nat.{_≤_};
 ghost use lib.ListN.{length, take};

@@ -1,7 +1,7 @@
 // The lines of a file, put into a buffer: those of its answer, and those of the record at a cursor.
+use iff_tree::Verdict;
 use ilbm_count::Counted;
 use list_cursor::Cursor;
-use iff_tree::Verdict;
 ghost use mathlib.Core.Path.{_≡_};
 ghost use Prim.Native.Nat.{_≤_, _<_};
 ghost use lib.ListN.{length, take};

@@ -1,6 +1,6 @@
 // Lists the chunks of the file at standard input.
-use list_cursor::Cursor;
 use iff_tree::Verdict;
+use list_cursor::Cursor;
 ghost use mathlib.Core.Path.{_≡_};
 ghost use Prim.Native.Nat.{_≤_, _<_};
 ghost use lib.ListN.{length};

@@ -16,9 +16,9 @@ use Rattle.byterun_pieces.specs.Pieces.{three, sameFor, plainFor, pieceOf}
 use Rattle.byterun_pack.specs.Pack.{packBy, packed}
 use Rattle.ilbm_spec.specs.declared.BitmapHeader.{BitmapHeader}
 use Rattle.ilbm_spec.specs.declared.PictureAnswer.the-variants.{Refused as Picture-refused}
-use Rattle.ilbm_spec.specs.Contents.{lastOwn, propertyOf, bodiesIn, contentsFrom}
+use Rattle.ilbm_spec.specs.Contents.{lastNamed, propertyOf, bodiesFrom, contentsFrom}
 use Rattle.ilbm_spec.specs.Pictures.{pictureRefusal, pickContent, pictureOf}
-use Rattle.ilbm_spec.specs.Rows.{Read, rowRead, rowsFrom, colourBy, coloursFrom, lineFrom}
+use Rattle.ilbm_spec.specs.Rows.{Read, rowRead, rowsFrom, colourBy, coloursFrom, bodyLine}
 use Rattle.write_plane_row.specs.Planes.{planeByte, planeRow}
 use Rattle.write_body.specs.Body.{lineRows, bodyLines}
 use Rattle.write_form.specs.File.{headerBytes, pictureFile}
@@ -77,12 +77,12 @@ pub record Table : Type 0 where
   pub equal-128 : packed (replicate 128 0x07) ≡ 0x81 ∷ 0x07 ∷ []
   pub equal-129 : packed (replicate 129 0x07) ≡ 0x81 ∷ 0x07 ∷ 0x00 ∷ 0x07 ∷ []
   pub equal-131 : packed (replicate 131 0x07) ≡ 0x81 ∷ 0x07 ∷ 0xFE ∷ 0x07 ∷ []
-  pub three-colours : lineFrom (threePixels 0) (0xA0 ∷ 0x00 ∷ 0x60 ∷ 0x00 ∷ []) 0 ≡ found (colours, 4)
+  pub three-colours : bodyLine (0xA0 ∷ 0x00 ∷ 0x60 ∷ 0x00 ∷ []) 3 2 0 0 0 3 ≡ found (colours, 4)
   pub written-plain : writeOf (threePixels 0) [] colours 52 ≡ Written 52
   pub written-packed : writeOf (threePixels 1) [] colours 54 ≡ Written 54
 
 no-header-counts : pictureOf form 0 ≡ Picture-refused 21 0
-unfolding readFile chunkAt run headerOf groupHeaderOf word wellFormed versionName kindOf typeBytes reservedName typeName contentsFrom propertyOf lastOwn bodiesIn pictureRefusal pickContent
+unfolding readFile chunkAt run headerOf groupHeaderOf word wellFormed versionName kindOf typeBytes reservedName typeName contentsFrom propertyOf lastNamed bodiesFrom pictureRefusal pickContent
 no-header-counts = refl
 
 pub examples : Table

@@ -49,7 +49,7 @@ part-at-requires c κs = body-marked _ _ _ _ (c .before .before .before .before 
 
 -- src/lib.rt:72:1
 returns : tie.Need-returns
-returns c = 
+returns c =
     all-content _ _ _ _ _ _ (c .before .before .before .before .before .before .before .before .before .before .before .before .before .gather .ensures)
     (c .before .before .before .before .before .before .property .ensures)
     (c .before .before .before .before .before .property2 .ensures)

@@ -10,7 +10,7 @@ use Rattle.iff_chunk.specs.Chunks.{Chunk}
 use Rattle.iff_tree.specs.Judge.{Found, found, refused, readFile}
 use Rattle.byterun_row.specs.ByteRun.{Row, filled, over, short}
 use Rattle.ilbm_spec.specs.declared.BitmapHeader.{BitmapHeader}
-use Rattle.ilbm_spec.specs.Contents.{Content, contentsOf}
+use Rattle.ilbm_spec.specs.Contents.{Located, Content, contentsOf}
 use Rattle.ilbm_spec.specs.Pictures.{Viewed, headerRefusal, pictureRefusal, judged, pickContent, viewIn, viewOf}
 use Rattle.ilbm_spec.specs.Rows.{Read, thenRead, rowRead, rowsFrom, lineBy, linesBy, leftover, onBody, askRows, lineOf, frameOf}
 use Rattle.theorem_demands.specs.Numbers.{structural, ofPicture, ofRows, ofLine, ofFrame, among, OneOf}
@@ -94,9 +94,9 @@ lines-refuse compression w planes rows body (suc lines) at =
 
 body-refuses :
     (numbers : List ℕ) (rows : List ℕ → Read (List ℕ)) → OneOf numbers 25 0 → ((body : List ℕ) → Refuses numbers (rows body)) →
-    (bodies : List (List ℕ)) → Refuses numbers (onBody bodies rows)
+    (bodies : List Located) → Refuses numbers (onBody bodies rows)
 body-refuses numbers rows i j [] = i
-body-refuses numbers rows i j (body ∷ others) = j body
+body-refuses numbers rows i j (body ∷ others) = j (body .content)
 
 asked-refuses :
     (numbers : List ℕ) (v : Viewed) (rows : BitmapHeader → List ℕ → Read (List ℕ)) → within ofPicture numbers ≡ true → OneOf numbers 25 0 →
