@@ -1,6 +1,7 @@
 // The exported call that lists a whole file: the table of its records, one lent column for each field, filled in one walk.
 // It returns 0 or the number of a refusal; the count is 0 beside a refusal, and no column is changed then.
 use iff_tree::Verdict;
+use list_column_table::fill_table;
 ghost use mathlib.Core.Path.{_≡_};
 ghost use Rattle.iff_tree.specs.Judge.{checkOf};
 ghost use Rattle.list_capacity.specs.Room.{answerOf};
@@ -8,13 +9,13 @@ ghost use Rattle.list_column_table.specs.Table.{roomOf, Filled};
 ghost use Rattle.export_table.specs.Numbers.{recordsNumbers};
 
 // An answer as numbers.
-struct Numbers {
+struct Answer {
     number: usize,
     place: usize,
     chunks: usize,
 }
 
-fn answer_numbers(v: Verdict) -> Numbers
+fn answer_numbers(v: Verdict) -> Answer
     ensures { λ r. ⌜ record { number = r .number; place = r .place; value = r .chunks } ≡ recordsNumbers v ⌝ }
 {
     match v {
@@ -22,12 +23,12 @@ fn answer_numbers(v: Verdict) -> Numbers
             chunks,
             end: _,
             trailing: _,
-        } => Numbers {
+        } => Answer {
             number: 0,
             place: 0,
             chunks,
         },
-        Verdict::Refused { number, place } => Numbers {
+        Verdict::Refused { number, place } => Answer {
             number,
             place,
             chunks: 0,
@@ -56,16 +57,9 @@ pub extern "C" fn iff_records(
         (now (numbers .entry)) (now (levels .entry)) (now (kinds .entry)) (now (names .entry)) (now (places .entry)) (now (sizes .entry))
         (now (numbers .exit)) (now (levels .exit)) (now (kinds .exit)) (now (names .exit)) (now (places .exit)) (now (sizes .exit)) ⌝ }
 {
-    let numbers = answer_numbers(list_column_table::fill_table(
-        file,
-        numbers,
-        levels,
-        kinds,
-        names,
-        places,
-        sizes,
-    ));
-    *place = numbers.place;
-    *chunks = numbers.chunks;
-    numbers.number
+    let filled = fill_table(file, numbers, levels, kinds, names, places, sizes);
+    let answer = answer_numbers(filled);
+    *place = answer.place;
+    *chunks = answer.chunks;
+    answer.number
 }
