@@ -24,8 +24,8 @@ pub enum Kind {
     LIST,
     CAT,
     PROP,
-    FILLER,
     LOCAL,
+    FILLER,
 }
 
 fn printable(b: u32) -> bool
@@ -139,7 +139,7 @@ impl Name {
     }
 }
 
-// A kind as a number: FORM, LIST, CAT, PROP, LOCAL and FILLER from 1 on.
+// A kind as a number, in the order in which they are declared: FORM, LIST, CAT, PROP, LOCAL and FILLER from 1 on.
 pub fn kind_number(k: Kind) -> usize
     ensures { λ r. ⌜ r ≡ kindNumber k ⌝ }
 {

@@ -63,7 +63,7 @@ pub fn inside(k: Kind) -> Position
         Kind::LIST => Position::InList,
         Kind::CAT => Position::InCat,
         Kind::PROP => Position::InProp,
-        Kind::FORM | Kind::FILLER | Kind::LOCAL => Position::InForm,
+        Kind::FORM | Kind::LOCAL | Kind::FILLER => Position::InForm,
     }
 }
 
