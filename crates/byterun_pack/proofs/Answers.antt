@@ -8,7 +8,7 @@ use lib.Dec.{ltb}
 use borrow.Author.Tests.{lt-ltb, le-ltb, ltb-false, eq-eqb, ne-eqb}
 use native.Mathlib.Omega.{arith}
 use Rattle.byterun_pack.specs.Pack.{packed, packOf, outAfter}
-use Rattle.byterun_pack.specs.laws.Laws.{packed-short}
+use Rattle.byterun_pack.specs.laws.Packed.{packed-short}
 use Rattle.byterun_pack.specs.declared.PackAnswer.{PackAnswer}
 use Rattle.byterun_pack.specs.declared.PackAnswer.the-variants.{Written, BadLength, NoRoom}
 

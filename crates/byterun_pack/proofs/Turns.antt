@@ -12,7 +12,7 @@ use native.Mathlib.Omega.{arith}
 use native.Mathlib.Numerals.{add-one, one-add}
 use Rattle.byterun_pieces.specs.Pieces.{three, sameFor, plainFor, pieceOf}
 use Rattle.byterun_pack.specs.Pack.{onPiece, packed}
-use Rattle.byterun_pack.specs.laws.Laws.{Taken, piece-taken, packed-none, packed-step}
+use Rattle.byterun_pack.specs.laws.Packed.{Taken, piece-taken, packed-none, packed-step}
 use Rattle.byterun_pieces.specs.declared.Piece.{Piece}
 use Rattle.byterun_pieces.specs.declared.Piece.the-variants.{Repeat, Literal}
 use Rattle.byterun_pieces.proofs.Scan.{first, piece-repeat, piece-literal}

@@ -1,5 +1,5 @@
 -- The packing of one row by ByteRun1.
-use Prim.Native.Nat.{ℕ, zero, suc, _-_}
+use Prim.Native.Nat.{ℕ, zero, suc, _+_, _-_, _/_}
 use mathlib.Core.List.{List, [], _∷_, _++_}
 use lib.ListN.{length, getD, take, drop}
 use lib.Dec.{ltb, eqb}
@@ -47,3 +47,7 @@ abbrev pub lengthOf : PackAnswer → ℕ
 lengthOf (Written k) = k
 lengthOf BadLength = 0
 lengthOf NoRoom = 0
+
+-- "a packed row grows by at most one byte per started 128": the most bytes for a row of n
+abbrev pub mostFor : ℕ → ℕ
+mostFor n = n + (n + 127) / 128

@@ -1,4 +1,4 @@
 pub mod Bytes
-pub mod Laws
+pub mod Packed
 pub mod Examples
 pub mod Written

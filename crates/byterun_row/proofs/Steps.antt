@@ -7,7 +7,7 @@ use mir.Syntax.{w64}
 use mir.Val.{Fits}
 use native.Mathlib.Omega.{arith}
 use Rattle.byterun_row.specs.ByteRun.{Row, filled, over, short, codeOf, prepend, onCode, unpackRow, answerOf}
-use Rattle.byterun_row.specs.laws.Laws.{row-none, row-step, Within, code-within}
+use Rattle.byterun_row.specs.laws.Steps.{row-none, row-step, Within, code-within}
 use Rattle.byterun_row.specs.declared.Code.{Code}
 use Rattle.byterun_row.specs.declared.Code.the-variants.{Missing, Skip, Copy, Repeat, Long, Cut}
 use Rattle.byterun_row.specs.declared.RowAnswer.{RowAnswer}

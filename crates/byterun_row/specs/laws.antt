@@ -1,4 +1,4 @@
 pub mod Bytes
 pub mod Examples
-pub mod Laws
+pub mod Steps
 pub mod Packing

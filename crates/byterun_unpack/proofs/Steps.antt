@@ -9,7 +9,7 @@ use mir.Syntax.{w64}
 use mir.Val.{Fits}
 use native.Mathlib.Omega.{arith}
 use Rattle.byterun_row.specs.ByteRun.{Row, filled, over, short, codeOf, prepend, unpackRow, IsFull}
-use Rattle.byterun_row.specs.laws.Laws.{row-none}
+use Rattle.byterun_row.specs.laws.Steps.{row-none}
 use Rattle.byterun_row.specs.declared.Code.{Code}
 use Rattle.byterun_row.specs.declared.Code.the-variants.{Missing, Skip, Copy, Repeat, Long, Cut}
 use Rattle.byterun_row.proofs.Steps.{within, stepped, skip-fits, skip-less, copy-code-fits, copy-fits, copy-inside, copy-less, repeat-fits, repeat-less}

@@ -6,7 +6,7 @@ use Rattle.export_numbers.specs.Numbers.{OneValue}
 use Rattle.iff_tree.specs.Judge.{checkOf}
 use Rattle.iff_tree.specs.declared.Verdict.{Verdict}
 use Rattle.iff_tree.specs.declared.Verdict.the-variants.{Accepted, Refused}
-use Rattle.list_capacity.specs.Room.{answerOf}
+use Rattle.list_capacity.specs.Capacity.{answerOf}
 use Rattle.list_column_table.specs.Table.{Filled}
 use Rattle.export_table.specs.Numbers.{recordsNumbers}
 

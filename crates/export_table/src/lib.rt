@@ -4,7 +4,7 @@ use iff_tree::Verdict;
 use list_column_table::fill_table;
 ghost use mathlib.Core.Path.{_≡_};
 ghost use Rattle.iff_tree.specs.Judge.{checkOf};
-ghost use Rattle.list_capacity.specs.Room.{answerOf};
+ghost use Rattle.list_capacity.specs.Capacity.{answerOf};
 ghost use Rattle.list_column_table.specs.Table.{roomOf, Filled};
 ghost use Rattle.export_table.specs.Numbers.{recordsNumbers};
 

@@ -9,7 +9,7 @@ use Rattle.iff_chunk.specs.Chunks.{none, Chunk, before, bytes, count, nextAt}
 use Rattle.iff_tree.specs.Judge.{found, readFile, checkOf}
 use Rattle.iff_grammar.specs.Grammar.{ChunkFile}
 use Rattle.iff_grammar.specs.Words.{Bytes}
-use Rattle.iff_grammar.specs.laws.Files.{file-complete, found-file, file-unique, file-next, file-verdict, verdict-file, file-told}
+use Rattle.iff_grammar.specs.laws.Files.{file-complete, found-file, file-unique, file-next, file-verdict, verdict-file, file-answered}
 
 -- Every file of the grammar is accepted, and reading finds its tree.
 pub complete : (s : List ℕ) (c : Chunk) (R : List ℕ) → ChunkFile s c R → readFile s ≡ found c
@@ -33,4 +33,4 @@ ends s c R f = (file-next s c R f, file-verdict s c R f)
 pub accepted-iff : (s : List ℕ) → Bytes s → (n e t : ℕ)
     → (checkOf s ≡ Accepted n e t)
     ↔ ((c : Chunk) × (R : List ℕ) × ChunkFile s c R × (n ≡ count (before c none)) × (e ≡ length (bytes (before c none))) × (t ≡ length R))
-accepted-iff s b n e t = (verdict-file s b n e t, file-told s n e t)
+accepted-iff s b n e t = (verdict-file s b n e t, file-answered s n e t)

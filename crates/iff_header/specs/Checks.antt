@@ -12,7 +12,8 @@ use Rattle.iff_rules.specs.Rules.{isGroup, misplaced, groupType, secondProp}
 use Rattle.iff_header.specs.declared.Header.{Header}
 use Rattle.iff_header.specs.declared.Header.the-variants.{Refused as Header-refused, Leaf, Group}
 
--- What 9 to 12 say of a group of kind k and size z at p; `levels` is how many levels of groups may still be opened.
+-- 9: "a group at level 17"; 10: "a group of size under 4"; 11: "type not allowed"; 12: "second PROP of the same type in this LIST". Of a
+-- group of kind k and size z at p; `levels` is how many levels of groups may still be opened.
 unfoldable pub groupHeaderOf : ℕ → List ℕ → ℕ → Kind → ℕ → ℕ → Header
 groupHeaderOf levels s from k z p =
     pick (eqb levels 0) (Header-refused 9)
@@ -21,7 +22,8 @@ groupHeaderOf levels s from k z p =
     (pick (secondProp k s from p (word s (p + 8))) (Header-refused 12)
     (Group k z))))
 
--- What 7 to 12 say of the chunk of kind k at p, in a parent that ends at e and whose members begin at `from`.
+-- 7: "size greater than e - p - 8"; 8: "odd size and no pad byte before e"; then 9 to 12. Of the chunk of kind k at p, in a parent that
+-- ends at e and whose members begin at `from`.
 abbrev pub sizedHeaderOf : ℕ → List ℕ → ℕ → Kind → ℕ → ℕ → Header
 sizedHeaderOf levels s from k p e =
     pick (ltb (e - p - 8) (word s (p + 4))) (Header-refused 7)
@@ -29,7 +31,8 @@ sizedHeaderOf levels s from k p e =
     (pick (isGroup k) (groupHeaderOf levels s from k (word s (p + 4)) p)
     (Leaf (word s (p + 4)))))
 
--- The header at p in a parent that ends at e and whose members begin at `from`: the lines of 01's table, in its order.
+-- The header at p in a parent that ends at e and whose members begin at `from`: the lines of 01's table, in its order. 4: "fewer than 8
+-- bytes from p to e"; 5: "name not well formed"; 3: "version name"; 6: "JJJJ as a chunk, or this kind not allowed here"; then 7 to 12.
 unfoldable pub headerOf : ℕ → List ℕ → ℕ → Position → ℕ → ℕ → Header
 headerOf levels s from w p e =
     pick (ltb (e - p) 8) (Header-refused 4)

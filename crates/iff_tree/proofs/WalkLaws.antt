@@ -100,22 +100,22 @@ pub group-fits : (lv : ℕ) (s : List ℕ) (p e : ℕ) (h : Header) (k : Kind) (
 group-fits lv s p e h k z i f = rw i at f
 
 module _ (lv : ℕ) (s : List ℕ) (w : Position) (p e n : ℕ) (k : Kind) (z : ℕ) (f : GroupFits lv s p e k z) (u : Walked) where
-  enter-told :
+  enter-answered :
       (F : Found Chunks) (m : ℕ) → Whole m ≡ walkedOf (n + 1) F →
       Next (after w k) m (p + 8 + (z + 1) / 2 * 2) ≡ stepOf s w p n (andThen F (λ G. found (aGroup (word s p) (word s (p + 8)) G)))
-  enter-told (found G) m j =
+  enter-answered (found G) m j =
       let i : m ≡ n + (1 + count G) = cc (the-sum) in
       rw (i, count-group, padded, ← f .size, f .kind)
     where
       the-sum : n + 1 + count G ≡ n + (1 + count G)
       the-sum = omega arith
-  enter-told (refused a b) m j = absurd (let y : _≡_ {A = ℕ} 0 1 = cc in omega arith)
+  enter-answered (refused a b) m j = absurd (let y : _≡_ {A = ℕ} 0 1 = cc in omega arith)
 
   pub enter-whole :
       (x v : Position) (m : ℕ) → x ≡ after w k → v ≡ inside k →
       u ≡ walkedOf (n + 1) (membersOf (lv - 1) s (p + 12) v (p + 12) (p + 8 + z)) → u ≡ Whole m →
       Next x m (p + 8 + (z + 1) / 2 * 2) ≡ stepOf s w p n (groupOf (lv - 1) s p k z)
-  enter-whole x v m a b i j = rw a (enter-told (membersOf (lv - 1) s (p + 12) (inside k) (p + 12) (p + 8 + z)) m (sym j ∙ (rw b at i)))
+  enter-whole x v m a b i j = rw a (enter-answered (membersOf (lv - 1) s (p + 12) (inside k) (p + 12) (p + 8 + z)) m (sym j ∙ (rw b at i)))
 
   enter-stop :
       (F : Found Chunks) (a b : ℕ) → Walked-refused a b ≡ walkedOf (n + 1) F →
@@ -195,13 +195,13 @@ module _ (p e : ℕ) (r : Step) (x : Position) (m q : ℕ) (k : Ahead p e r) (i 
 pub ruleset walk-laws = (member-bad, member-leaf, member-group, leaf-ahead, leaf-one-more, leaf-padded, leaf-next, group-fits, enter-whole, enter-broken, enter-ahead, runs-more, runs-stop, runs-end, ahead-end, ahead-count, ahead-start, ahead-less)
 
 -- the whole file
-told-verdict : (s : List ℕ) (f : Found Chunk) (x : Position) (m q : ℕ) → Next x m q ≡ stepOf s Outermost 0 0 f → Accepted m q (length s - q) ≡ verdictOf s f
-told-verdict s (found c) x m q i =
+answered-verdict : (s : List ℕ) (f : Found Chunk) (x : Position) (m q : ℕ) → Next x m q ≡ stepOf s Outermost 0 0 f → Accepted m q (length s - q) ≡ verdictOf s f
+answered-verdict s (found c) x m q i =
     let a : m ≡ 0 + count (before c none) = cc in
     let b : m ≡ count (before c none) = omega arith in
     let d : q ≡ nextAt s 0 = cc in
     cc
-told-verdict s (refused k p) x m q i = absurd (let y : _≡_ {A = ℕ} 0 1 = cc in omega arith)
+answered-verdict s (refused k p) x m q i = absurd (let y : _≡_ {A = ℕ} 0 1 = cc in omega arith)
 
 stop-verdict : (s : List ℕ) (f : Found Chunk) (a b : ℕ) → Step-refused a b ≡ stepOf s Outermost 0 0 f → Refused a b ≡ verdictOf s f
 stop-verdict s (found c) a b i = absurd (let y : _≡_ {A = ℕ} 0 1 = cc in omega arith)
@@ -209,7 +209,7 @@ stop-verdict s (refused k p) a b i = cc
 
 module _ (s : List ℕ) (f : Found Chunk) (r : Step) (d : r ≡ stepOf s Outermost 0 0 f) where
   pub file-accepted : (x : Position) (m q : ℕ) → r ≡ Next x m q → Accepted m q (length s - q) ≡ verdictOf s f
-  file-accepted x m q i = told-verdict s f x m q (sym i ∙ d)
+  file-accepted x m q i = answered-verdict s f x m q (sym i ∙ d)
 
   pub file-refused : (a b : ℕ) → r ≡ Step-refused a b → Refused a b ≡ verdictOf s f
   file-refused a b i = stop-verdict s f a b (sym i ∙ d)

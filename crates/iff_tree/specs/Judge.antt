@@ -1,4 +1,4 @@
--- 01 "Order of checks and numbers": the chunk at a place, whose header is judged by header/specs/Checks, and the whole file.
+-- 01 "Order of checks and numbers": the chunk at a place, whose header is judged by iff_header/specs/Checks, and the whole file.
 use Prim.Native.Nat.{ℕ, zero, suc, _+_, _-_, _%_, _≤_, _<_}
 use mathlib.Core.List.{List}
 use lib.Dec.{ltb}

@@ -17,25 +17,25 @@ use Rattle.ilbm_spec.specs.declared.FrameAnswer.the-variants.{Leftover, Refused
 use Rattle.ilbm_spec.specs.Rows.{rowsInLine, Read, lineBy, linesBy, leftover, bodyLine, bodyFrame, lineAnswer, frameAnswer, bytesAfter}
 
 -- the answer and the lent bytes afterwards are those of a reading
-abbrev LineTold : Read (List ℕ) → List ℕ → LineAnswer → List ℕ → Type 0
-LineTold v old r new = (r ≡ lineAnswer v) × (new ≡ bytesAfter v old)
+abbrev LineAnswered : Read (List ℕ) → List ℕ → LineAnswer → List ℕ → Type 0
+LineAnswered v old r new = (r ≡ lineAnswer v) × (new ≡ bytesAfter v old)
 
-abbrev FrameTold : Read (List ℕ) → List ℕ → FrameAnswer → List ℕ → Type 0
-FrameTold v old r new = (r ≡ frameAnswer v) × (new ≡ bytesAfter v old)
+abbrev FrameAnswered : Read (List ℕ) → List ℕ → FrameAnswer → List ℕ → Type 0
+FrameAnswered v old r new = (r ≡ frameAnswer v) × (new ≡ bytesAfter v old)
 
 module _ (body : List ℕ) (w planes masking compression start : ℕ) (old : List ℕ) where
   abbrev line : Read (List ℕ)
   line = bodyLine body w planes masking compression start (length old)
 
-  pub line-29 : length body < start → LineTold line old (Refused 29 0) old
+  pub line-29 : length body < start → LineAnswered line old (Refused 29 0) old
   line-29 l = rw (lt-ltb _ _ l) (refl, refl)
 
-  pub line-28 : start ≤ length body → (length old ≡ w → ⊥) → LineTold line old (Refused 28 0) old
+  pub line-28 : start ≤ length body → (length old ≡ w → ⊥) → LineAnswered line old (Refused 28 0) old
   line-28 l n = rw (le-ltb _ _ l, ne-eqb _ _ n) (refl, refl)
 
   pub line-read :
       (r : LineAnswer) (new : List ℕ) → start ≤ length body → length old ≡ w →
-      LineTold (lineBy compression w planes (rowsInLine planes masking) body start) old r new → LineTold line old r new
+      LineAnswered (lineBy compression w planes (rowsInLine planes masking) body start) old r new → LineAnswered line old r new
   line-read r new l n t = rw (le-ltb _ _ l, eq-eqb _ _ n) t
 
 -- what is told of lines, with the count of what is left after them
@@ -65,20 +65,20 @@ module _ (body : List ℕ) (w h planes masking compression : ℕ) (old : List �
   abbrev lines : Read (List ℕ)
   lines = linesBy compression w planes (rowsInLine planes masking) body h 0
 
-  pub frame-28 : (length old ≡ w * h → ⊥) → FrameTold frame old (Frame-refused 28 0) old
+  pub frame-28 : (length old ≡ w * h → ⊥) → FrameAnswered frame old (Frame-refused 28 0) old
   frame-28 n = rw (ne-eqb _ _ n) (refl, refl)
 
-  module _ (n : length old ≡ w * h) (r : LineAnswer) (new : List ℕ) (t : LineTold lines old r new) where
+  module _ (n : length old ≡ w * h) (r : LineAnswer) (new : List ℕ) (t : LineAnswered lines old r new) where
     is-lines : frame ≡ leftover (length body) lines
     is-lines = rw (eq-eqb _ _ n)
 
     bytes : new ≡ bytesAfter (leftover (length body) lines) old
     bytes = t .1 ∙ left-bytes (length body) lines old
 
-    pub frame-left : (q m : ℕ) → r ≡ Next q → m ≡ length body - q → FrameTold frame old (Leftover m) new
+    pub frame-left : (q m : ℕ) → r ≡ Next q → m ≡ length body - q → FrameAnswered frame old (Leftover m) new
     frame-left q m j d = rw is-lines (left-next (length body) lines r (t .0) q m j d, bytes)
 
-    pub frame-refused : (k p : ℕ) → r ≡ Refused k p → FrameTold frame old (Frame-refused k p) new
+    pub frame-refused : (k p : ℕ) → r ≡ Refused k p → FrameAnswered frame old (Frame-refused k p) new
     frame-refused k p j = rw is-lines (left-refused (length body) lines r (t .0) k p j, bytes)
 
 -- the pixels of a frame can be counted

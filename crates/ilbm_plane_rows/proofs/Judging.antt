@@ -13,19 +13,19 @@ use Rattle.ilbm_spec.specs.declared.LineAnswer.the-variants.{Next, Refused}
 
 -- what is told of a reading settles whether it is read, and what is written
 module _ {A : Type 0} (v : Read A) (r : LineAnswer) (j : r ≡ lineAnswer v) where
-  pub told-next : (q : ℕ) → r ≡ Next q → IsRead v
-  told-next q d = go v (sym j ∙ d)
+  pub answered-next : (q : ℕ) → r ≡ Next q → IsRead v
+  answered-next q d = go v (sym j ∙ d)
     where
       go : (v : Read A) → lineAnswer v ≡ Next q → IsRead v
       go (found (a, p)) u = tt
       go (refused k p) u = let z : _≡_ {A = ℕ} 0 1 = cc in absurd (omega arith)
 
 module _ (v : Read (List ℕ)) (r : LineAnswer) (j : r ≡ lineAnswer v) (old : List ℕ) where
-  pub told-read : (new : List ℕ) (q p : ℕ) → r ≡ Next q → v ≡ found (new, p) → (Next q ≡ lineAnswer v) × (new ≡ bytesAfter v old)
-  told-read new q p d i = (sym d ∙ j, rw i)
+  pub answered-read : (new : List ℕ) (q p : ℕ) → r ≡ Next q → v ≡ found (new, p) → (Next q ≡ lineAnswer v) × (new ≡ bytesAfter v old)
+  answered-read new q p d i = (sym d ∙ j, rw i)
 
-  pub told-refusal : (k p : ℕ) → r ≡ Refused k p → (Refused k p ≡ lineAnswer v) × (old ≡ bytesAfter v old)
-  told-refusal k p d = (sym d ∙ j, go v (sym j ∙ d))
+  pub answered-refusal : (k p : ℕ) → r ≡ Refused k p → (Refused k p ≡ lineAnswer v) × (old ≡ bytesAfter v old)
+  answered-refusal k p d = (sym d ∙ j, go v (sym j ∙ d))
     where
       go : (v : Read (List ℕ)) → lineAnswer v ≡ Refused k p → old ≡ bytesAfter v old
       go (found (a, s)) u = let z : _≡_ {A = ℕ} 0 1 = cc in absurd (omega arith)
@@ -35,9 +35,9 @@ module _ (v : Read (List ℕ)) (r : LineAnswer) (j : r ≡ lineAnswer v) (old : 
 abbrev pub onward : List ℕ → Read (List (List ℕ)) → Read (List (List ℕ))
 onward bs later = thenRead later (λ rest r. found ((bs ∷ rest), r))
 
-pub told-onward : (bs : List ℕ) (later : Read (List (List ℕ))) → lineAnswer (onward bs later) ≡ lineAnswer later
-told-onward bs (found (a, q)) = refl
-told-onward bs (refused k p) = refl
+pub answered-onward : (bs : List ℕ) (later : Read (List (List ℕ))) → lineAnswer (onward bs later) ≡ lineAnswer later
+answered-onward bs (found (a, q)) = refl
+answered-onward bs (refused k p) = refl
 
 -- where rows are left, the first of them is read, and then the others
 pub rows-once :
@@ -70,7 +70,7 @@ module _ (compression : ℕ) (body : List ℕ) (n rows at : ℕ) where
               (w : Row) → answerOf w ≡ Full p →
               lineAnswer (thenRead (rowRead w) (λ bs p. onward bs (rowsFrom compression body n (rows - (k + 1)) p))) ≡ lineAnswer (rowsFrom compression body n rows at) →
               lineAnswer (rowsFrom compression body n (rows - (k + 1)) p) ≡ lineAnswer (rowsFrom compression body n rows at)
-          go (filled bs s) d f = let z : s ≡ p = cc in rw z at (sym (told-onward bs (rowsFrom compression body n (rows - (k + 1)) s)) ∙ f)
+          go (filled bs s) d f = let z : s ≡ p = cc in rw z at (sym (answered-onward bs (rowsFrom compression body n (rows - (k + 1)) s)) ∙ f)
           go (over s) d f = let z : _≡_ {A = ℕ} 0 1 = cc in absurd (omega arith)
           go (short s) d f = let z : _≡_ {A = ℕ} 0 1 = cc in absurd (omega arith)
 

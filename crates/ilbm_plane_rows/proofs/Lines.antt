@@ -10,7 +10,7 @@ use native.Mathlib.Omega.{arith}
 use Rattle.iff_name.specs.Name.{pick}
 use Rattle.ilbm_spec.specs.Rows.{rowLength, rowsInLine, Read, thenRead, IsRead, rowsFrom, coloursFrom, lineBy, lineAnswer, bytesAfter}
 use Rattle.ilbm_gather.specs.Buffer.{rowsIn}
-use Rattle.ilbm_plane_rows.proofs.Judging.{told-next, told-read, told-refusal}
+use Rattle.ilbm_plane_rows.proofs.Judging.{answered-next, answered-read, answered-refusal}
 use Rattle.ilbm_spec.specs.declared.LineAnswer.{LineAnswer}
 use Rattle.iff_tree.specs.Judge.{found, refused}
 use Rattle.ilbm_spec.specs.declared.LineAnswer.the-variants.{Next, Refused}
@@ -57,11 +57,11 @@ module _ (compression : ℕ) (body : List ℕ) (w planes rows at n : ℕ) (e : n
   -- what was judged of the rows
   module _ (r : LineAnswer) (j : r ≡ lineAnswer (rowsFrom compression body n rows at)) where
     pub rows-judged : (q : ℕ) → r ≡ Next q → IsRead (rowsFrom compression body (rowLength w) rows at)
-    rows-judged q d = told-next (rowsFrom compression body (rowLength w) rows at) r (rw e at j) q d
+    rows-judged q d = answered-next (rowsFrom compression body (rowLength w) rows at) r (rw e at j) q d
 
     module _ (m : ℕ) (c : rows ≡ m) (old : List ℕ) where
-      line-told : r ≡ lineAnswer (lineBy compression w planes m body at)
-      line-told = rw (← c) (rw e at j ∙ go (rowsFrom compression body (rowLength w) rows at))
+      line-answered : r ≡ lineAnswer (lineBy compression w planes m body at)
+      line-answered = rw (← c) (rw e at j ∙ go (rowsFrom compression body (rowLength w) rows at))
         where
           go : (v : Read (List (List ℕ))) → lineAnswer v ≡ lineAnswer (thenRead v (λ planeRows q. found ((coloursFrom 0 w (take planes planeRows)), q)))
           go (found (a, p)) = refl
@@ -70,11 +70,11 @@ module _ (compression : ℕ) (body : List ℕ) (w planes rows at n : ℕ) (e : n
       pub line-read :
           (new : List ℕ) (q p : ℕ) → r ≡ Next q → lineBy compression w planes rows body at ≡ found (new, p) →
           (Next q ≡ lineAnswer (lineBy compression w planes m body at)) × (new ≡ bytesAfter (lineBy compression w planes m body at) old)
-      line-read new q p d i = told-read (lineBy compression w planes m body at) r line-told old new q p d (rw c at i)
+      line-read new q p d i = answered-read (lineBy compression w planes m body at) r line-answered old new q p d (rw c at i)
 
       pub line-refusal :
           (k p : ℕ) → r ≡ Refused k p →
           (Refused k p ≡ lineAnswer (lineBy compression w planes m body at)) × (old ≡ bytesAfter (lineBy compression w planes m body at) old)
-      line-refusal k p d = told-refusal (lineBy compression w planes m body at) r line-told old k p d
+      line-refusal k p d = answered-refusal (lineBy compression w planes m body at) r line-answered old k p d
 
 pub ruleset lines = (count-room, rows-fit, rows-read, line-written, rows-judged, line-read, line-refusal)

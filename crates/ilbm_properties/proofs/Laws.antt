@@ -134,7 +134,7 @@ origin-is s h (own d) k = k .0
 origin-is s h (shared p d) k = k .0
 origin-is s h absent k = k .0
 
-pub picture-told :
+pub picture-answered :
     (s : List ℕ) (c : Contents) (b : BitmapHeader) (g : HotSpot) (d : Destination) (w m : ℕ) →
     GrabIs s (c .grab) g → DestinationIs s (c .dest) d → WordIs s (c .sprt) w → LongIs s (c .camg) m →
     PictureIs s c b
@@ -152,7 +152,7 @@ pub picture-told :
       «view_mode_from» = c .camg .origin;
     })
 unfolding pictureFrom
-picture-told s c b g d w m G D W M =
+picture-answered s c b g d w m G D W M =
     record {
       at = λ x y.
           let k = y .parts in

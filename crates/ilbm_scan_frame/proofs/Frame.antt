@@ -15,7 +15,7 @@ use Rattle.ilbm_gather.proofs.Colours.{row-room}
 use Rattle.ilbm_spec.specs.declared.LineAnswer.{LineAnswer}
 use Rattle.ilbm_spec.specs.declared.LineAnswer.the-variants.{Next, Refused}
 use Rattle.iff_tree.specs.Judge.{found, refused}
-use Rattle.ilbm_plane_rows.proofs.Judging.{onward, told-onward, told-next, told-read, told-refusal}
+use Rattle.ilbm_plane_rows.proofs.Judging.{onward, answered-onward, answered-next, answered-read, answered-refusal}
 
 -- a + b rows are a rows, and then b
 rows-add :
@@ -36,17 +36,17 @@ rows-add compression body n (suc a) b at =
         (v : Read (List ℕ)) →
         lineAnswer (thenRead v (λ bs q. onward bs (rowsFrom compression body n (a + b) q)))
         ≡ lineAnswer (thenRead (thenRead v (λ bs q. onward bs (rowsFrom compression body n a q))) (λ rs q. rowsFrom compression body n b q))
-    go ih (found (bs, q)) = told-onward bs (rowsFrom compression body n (a + b) q) ∙ ih q ∙ sym (past bs (rowsFrom compression body n a q))
+    go ih (found (bs, q)) = answered-onward bs (rowsFrom compression body n (a + b) q) ∙ ih q ∙ sym (past bs (rowsFrom compression body n a q))
     go ih (refused k p) = refl
 
 module _ (compression w planes rows : ℕ) (body : List ℕ) where
   -- the lines from a place are told of as their rows are
-  lines-told : (h at : ℕ) → lineAnswer (rowsFrom compression body (rowLength w) (h * rows) at) ≡ lineAnswer (linesBy compression w planes rows body h at)
+  lines-answered : (h at : ℕ) → lineAnswer (rowsFrom compression body (rowLength w) (h * rows) at) ≡ lineAnswer (linesBy compression w planes rows body h at)
   unfolding rowsFrom linesBy
-  lines-told zero at = rw (zero-mul rows)
-  lines-told (suc h) at =
+  lines-answered zero at = rw (zero-mul rows)
+  lines-answered (suc h) at =
       let e : suc h * rows ≡ rows + h * rows = omega (arith, suc-mul h rows) in
-      rw e (rows-add compression body (rowLength w) rows (h * rows) at ∙ go (λ q. lines-told h q) (rowsFrom compression body (rowLength w) rows at))
+      rw e (rows-add compression body (rowLength w) rows (h * rows) at ∙ go (λ q. lines-answered h q) (rowsFrom compression body (rowLength w) rows at))
     where
       past : (cs : List ℕ) (v : Read (List ℕ)) → lineAnswer v ≡ lineAnswer (thenRead v (λ rest r. found ((cs ++ rest), r)))
       past cs (found (rest, r)) = refl
@@ -61,22 +61,22 @@ module _ (compression w planes rows : ℕ) (body : List ℕ) where
 
   -- what was judged of a frame's rows
   module _ (h n : ℕ) (e : n ≡ rowLength w) (r : LineAnswer) (j : r ≡ lineAnswer (rowsFrom compression body n (h * rows) 0)) where
-    frame-told : r ≡ lineAnswer (linesBy compression w planes rows body h 0)
-    frame-told = rw e at j ∙ lines-told h 0
+    frame-answered : r ≡ lineAnswer (linesBy compression w planes rows body h 0)
+    frame-answered = rw e at j ∙ lines-answered h 0
 
     pub frame-judged : (q : ℕ) → r ≡ Next q → IsRead (linesBy compression w planes rows body h 0)
-    frame-judged q d = told-next (linesBy compression w planes rows body h 0) r frame-told q d
+    frame-judged q d = answered-next (linesBy compression w planes rows body h 0) r frame-answered q d
 
     module _ (m : ℕ) (c : rows ≡ m) (old : List ℕ) where
       pub frame-read :
           (new : List ℕ) (q p : ℕ) → r ≡ Next q → linesBy compression w planes rows body h 0 ≡ found (new, p) →
           (Next q ≡ lineAnswer (linesBy compression w planes m body h 0)) × (new ≡ bytesAfter (linesBy compression w planes m body h 0) old)
-      frame-read new q p d i = rw (← c) (told-read (linesBy compression w planes rows body h 0) r frame-told old new q p d i)
+      frame-read new q p d i = rw (← c) (answered-read (linesBy compression w planes rows body h 0) r frame-answered old new q p d i)
 
       pub frame-refusal :
           (k p : ℕ) → r ≡ Refused k p →
           (Refused k p ≡ lineAnswer (linesBy compression w planes m body h 0)) × (old ≡ bytesAfter (linesBy compression w planes m body h 0) old)
-      frame-refusal k p d = rw (← c) (told-refusal (linesBy compression w planes rows body h 0) r frame-told old k p d)
+      frame-refusal k p d = rw (← c) (answered-refusal (linesBy compression w planes rows body h 0) r frame-answered old k p d)
 
   -- where lines are left, the first of them is read, and then the others
   lines-once :

@@ -17,7 +17,7 @@ use Rattle.iff_grammar.specs.Words.{Bytes}
 use Rattle.list_spec.specs.Records.{recordsOf}
 use Rattle.list_spec.specs.laws.Counts.{length-records}
 use Rattle.list_cursor.specs.laws.Walk.{located-first}
-use Rattle.list_capacity.specs.Room.{recordsIn, recordsFor, answerOf, toPut, Ready}
+use Rattle.list_capacity.specs.Capacity.{recordsIn, recordsFor, answerOf, toPut, Ready}
 
 module _ (s : List ℕ) (v : Verdict) (d : v ≡ checkOf s) where
   pub refused-answer : (m k p : ℕ) → v ≡ Verdict-refused k p → Verdict-refused k p ≡ answerOf m (checkOf s)

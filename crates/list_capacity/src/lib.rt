@@ -2,7 +2,7 @@
 use iff_tree::Verdict;
 ghost use mathlib.Core.Path.{_≡_};
 ghost use Rattle.iff_tree.specs.Judge.{checkOf};
-ghost use Rattle.list_capacity.specs.Room.{answerOf, toPut, Ready};
+ghost use Rattle.list_capacity.specs.Capacity.{answerOf, toPut, Ready};
 
 // The answer for a table of m places: the check's, or 13 if the file has more chunks.
 pub fn answer(s: &[u8], m: usize) -> Verdict

@@ -14,8 +14,8 @@ use Rattle.list_spec.specs.declared.Record.{Record}
 use Rattle.list_spec.specs.declared.Listed.the-variants.{Chunk as Listed-chunk, Refused}
 use Rattle.list_cursor.specs.declared.Cursor.{Cursor}
 use Rattle.list_cursor.specs.Cursors.{recordAt, groupAt, onwardAt, Lies}
-use Rattle.list_checked_cursor.specs.Anywhere.{groupLies, plainLies, liesAt, readAt, movedAt}
-use Rattle.list_checked_cursor.specs.laws.Anywhere.{lies-known}
+use Rattle.list_checked_cursor.specs.Checked.{groupLies, plainLies, liesAt, readAt, movedAt}
+use Rattle.list_checked_cursor.specs.laws.Checked.{lies-known}
 
 -- a group, and a chunk that is none
 

@@ -1,2 +1,2 @@
-pub mod Anywhere
+pub mod Checked
 pub mod laws

@@ -1,1 +1,1 @@
-pub mod Anywhere
+pub mod Checked

@@ -3,7 +3,7 @@ use list_cursor::Cursor;
 use list_spec::Listed;
 ghost use mathlib.Core.Path.{_≡_};
 ghost use Prim.Native.Nat.{_≤_, _<_};
-ghost use Rattle.list_checked_cursor.specs.Anywhere.{groupLies, plainLies, liesAt, readAt, movedAt};
+ghost use Rattle.list_checked_cursor.specs.Checked.{groupLies, plainLies, liesAt, readAt, movedAt};
 
 // Whether a group of level l and size z at p lies in a file of n bytes, at a level that a group can have.
 fn group_lies(n: usize, p: usize, l: usize, z: usize) -> bool

@@ -6,7 +6,7 @@ use lib.ListN.{take}
 use Rattle.iff_tree.specs.Judge.{readFile, checkOf}
 use Rattle.iff_tree.specs.declared.Verdict.{Verdict}
 use Rattle.list_spec.specs.declared.Record.{Record}
-use Rattle.list_capacity.specs.Room.{recordsIn, recordsFor, answerOf, toPut, Ready}
+use Rattle.list_capacity.specs.Capacity.{recordsIn, recordsFor, answerOf, toPut, Ready}
 use Rattle.list_capacity.proofs.RoomLaws.{all-of, no-more-than}
 use Rattle.list_columns.specs.Columns.{column}
 

@@ -5,7 +5,7 @@ use mathlib.Core.List.{List}
 use lib.ListN.{length}
 use Rattle.iff_tree.specs.Judge.{readFile, checkOf}
 use Rattle.iff_tree.specs.declared.Verdict.{Verdict}
-use Rattle.list_capacity.specs.Room.{recordsFor, answerOf}
+use Rattle.list_capacity.specs.Capacity.{recordsFor, answerOf}
 use Rattle.list_columns.specs.Columns.{recordNumber, levelOf, kindNumberOf, nameOf, recordPlace, sizeOf, column}
 
 -- A table has as many places as its shortest column.

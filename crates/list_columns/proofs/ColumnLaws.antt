@@ -15,7 +15,7 @@ use Rattle.list_spec.specs.declared.Listed.the-variants.{Chunk as Listed-chunk}
 use Rattle.list_spec.specs.Records.{recordsOf, pickRecord, recordIn, recordOf, countOf}
 use Rattle.list_cursor.specs.declared.Cursor.{Cursor}
 use Rattle.list_cursor.specs.Cursors.{firstCursor, Located}
-use Rattle.list_capacity.specs.Room.{recordsIn, Ready}
+use Rattle.list_capacity.specs.Capacity.{recordsIn, Ready}
 use Rattle.list_columns.specs.Columns.{column}
 
 kind-fits : (k : Kind) → kindNumber k < 256

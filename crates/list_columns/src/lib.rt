@@ -4,7 +4,7 @@ ghost use mathlib.Core.Path.{_≡_};
 ghost use Prim.Native.Nat.{_≤_, _<_, min};
 ghost use lib.ListN.{length, set, take};
 ghost use Rattle.iff_tree.specs.Judge.{readFile};
-ghost use Rattle.list_capacity.specs.Room.{recordsIn, Ready};
+ghost use Rattle.list_capacity.specs.Capacity.{recordsIn, Ready};
 ghost use Rattle.list_columns.specs.Columns.{
   recordNumber,
   levelOf,

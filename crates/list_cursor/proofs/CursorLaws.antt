@@ -61,10 +61,10 @@ module _ (s : List ℕ) (cur : Cursor) (at : Lies s cur) where
       here : (x : Bool) → g ≡ x → groupAt s cur ≡ x
       here x i = rw (← a, ← d, ← e) i
 
-      told :
+      answered :
           (m : Name) → m .code ≡ nameAt s (cur .place) →
           record { number = cur .number; level = cur .level; kind = k; name = m; place = cur .place; size = z } ≡ recordAt s (cur .level) (cur .number) (cur .place)
-      told m f =
+      answered m f =
           let name : m ≡ record { code = nameAt s (cur .place) } = name-is m _ f in
           let kind : k ≡ kindOf (word s (cur .place)) = d ∙ ap kindOf a in
           cc
@@ -72,15 +72,15 @@ module _ (s : List ℕ) (cur : Cursor) (at : Lies s cur) where
       pub typed : g ≡ true → cur .place + 8 + 4 ≤ length s
       typed i = omega (arith, at .type (here true i))
 
-      pub group-told :
+      pub group-answered :
           g ≡ true → (m : Name) → m .code ≡ word s (cur .place + 8) →
           record { number = cur .number; level = cur .level; kind = k; name = m; place = cur .place; size = z } ≡ recordAt s (cur .level) (cur .number) (cur .place)
-      group-told i m f = told m (rw (here true i) f)
+      group-answered i m f = answered m (rw (here true i) f)
 
-      pub leaf-told :
+      pub leaf-answered :
           g ≡ false → (m : Name) → n ≡ m .code →
           record { number = cur .number; level = cur .level; kind = k; name = m; place = cur .place; size = z } ≡ recordAt s (cur .level) (cur .number) (cur .place)
-      leaf-told i m f = told m (rw (here false i) (sym f ∙ a))
+      leaf-answered i m f = answered m (rw (here false i) (sym f ∙ a))
 
       -- where the cursor goes
 
@@ -125,18 +125,18 @@ padded : (p z : ℕ) → p + 8 + (z + 1) / 2 * 2 ≡ p + 8 + z + z % 2
 padded p z = omega arith
 
 module _ (cur : Cursor) (z l : ℕ) where
-  pub enter-told :
+  pub enter-answered :
       l ≡ openLevel (set (cur .ends) (cur .level - 1) (cur .place + 8 + z)) (cur .place + 12) (cur .level + 1) →
       record { place = cur .place + 12; number = cur .number + 1; level = l; ends = set (cur .ends) (cur .level - 1) (cur .place + 8 + z) } ≡ entered cur z
-  enter-told e = cc
+  enter-answered e = cc
 
-  pub pass-told :
+  pub pass-answered :
       l ≡ openLevel (cur .ends) (cur .place + 8 + (z + 1) / 2 * 2) (cur .level) →
       record { place = cur .place + 8 + (z + 1) / 2 * 2; number = cur .number + 1; level = l; ends = cur .ends } ≡ passed cur z
-  pass-told e = rw (e, padded (cur .place) z)
+  pass-answered e = rw (e, padded (cur .place) z)
 
 pub ruleset open-laws = (open-more, open-stop, open-end)
 
-pub ruleset at-laws = (named, sized, typed, group-told, leaf-told)
+pub ruleset at-laws = (named, sized, typed, group-answered, leaf-answered)
 
-pub ruleset move-laws = (named, sized, enters, enter-onward, passes, pass-onward, enter-told, pass-told)
+pub ruleset move-laws = (named, sized, enters, enter-onward, passes, pass-onward, enter-answered, pass-answered)

@@ -15,7 +15,7 @@ use Rattle.list_spec.specs.declared.Listed.the-variants.{Chunk as Listed-chunk,
 use Rattle.list_spec.specs.Records.{countOf}
 use Rattle.list_cursor.specs.declared.Cursor.{Cursor}
 use Rattle.list_cursor.specs.Cursors.{firstCursor}
-use Rattle.list_checked_cursor.specs.Anywhere.{readAt, movedAt}
+use Rattle.list_checked_cursor.specs.Checked.{readAt, movedAt}
 use Rattle.list_reader.specs.declared.Place.{Place}
 use Rattle.list_reader.specs.declared.Step.{Step}
 use Rattle.list_reader.specs.declared.Step.the-variants.{Chunk, End}

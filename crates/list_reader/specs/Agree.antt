@@ -9,7 +9,7 @@ use Rattle.iff_tree.specs.Judge.{readFile}
 use Rattle.list_spec.specs.declared.Record.{Record}
 use Rattle.list_spec.specs.Records.{countOf}
 use Rattle.list_cursor.specs.Cursors.{Located}
-use Rattle.list_capacity.specs.Room.{recordsFor}
+use Rattle.list_capacity.specs.Capacity.{recordsFor}
 use Rattle.list_columns.specs.Columns.{column}
 use Rattle.list_reader.specs.declared.Place.{Place}
 use Rattle.list_reader.specs.declared.Step.the-variants.{Chunk as Step-chunk}

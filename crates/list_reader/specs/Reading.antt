@@ -9,7 +9,7 @@ use Rattle.iff_tree.specs.declared.Verdict.the-variants.{Accepted, Refused as V
 use Rattle.list_spec.specs.declared.Listed.{Listed}
 use Rattle.list_spec.specs.declared.Listed.the-variants.{Chunk as Listed-chunk, Refused}
 use Rattle.list_cursor.specs.Cursors.{firstCursor}
-use Rattle.list_checked_cursor.specs.Anywhere.{readAt, movedAt}
+use Rattle.list_checked_cursor.specs.Checked.{readAt, movedAt}
 use Rattle.list_reader.specs.declared.Place.{Place}
 use Rattle.list_reader.specs.declared.Refusal.{Refusal}
 use Rattle.list_reader.specs.declared.Step.{Step}

@@ -30,7 +30,7 @@ use denote.Triple.Walked.{says}
 use Rattle.iff_tree.specs.Judge.{checkOf}
 use Rattle.iff_tree.specs.declared.Verdict.{Verdict}
 use Rattle.list_spec.specs.declared.Record.{Record}
-use Rattle.list_capacity.specs.Room.{answerOf, toPut, Ready}
+use Rattle.list_capacity.specs.Capacity.{answerOf, toPut, Ready}
 use Rattle.iff_tree.proofs.Verdict as Ver
 use Rattle.iff_tree.proofs.Verdict.Laws as Ver′
 use Rattle.list_capacity.proofs.answer as ans

@@ -9,7 +9,7 @@ use Rattle.iff_tree.specs.Judge.{Found, found, refused, readFile}
 use Rattle.list_spec.specs.declared.Record.{Record}
 use Rattle.list_spec.specs.declared.Listed.the-variants.{Chunk as Listed-chunk}
 use Rattle.list_spec.specs.Records.{recordsOf, pickRecord, recordIn, recordOf}
-use Rattle.list_capacity.specs.Room.{recordsIn}
+use Rattle.list_capacity.specs.Capacity.{recordsIn}
 use Rattle.list_record_table.specs.Rows.{placed}
 
 pub placed-length : (rs old : List Record) → length (placed rs old) ≡ length old

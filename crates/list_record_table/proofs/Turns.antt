@@ -10,7 +10,7 @@ use Rattle.list_spec.specs.declared.Listed.the-variants.{Chunk as Listed-chunk}
 use Rattle.list_spec.specs.Records.{recordOf, countOf}
 use Rattle.list_cursor.specs.declared.Cursor.{Cursor}
 use Rattle.list_cursor.specs.Cursors.{firstCursor, Located}
-use Rattle.list_capacity.specs.Room.{Ready}
+use Rattle.list_capacity.specs.Capacity.{Ready}
 use Rattle.list_record_table.proofs.RowTurns.{RowTurn, first-row, next-row}
 use Rattle.list_cursor.proofs.Cursor as Cur
 

@@ -5,7 +5,7 @@ ghost use mathlib.Core.Path.{_≡_};
 ghost use Prim.Native.Nat.{_≤_};
 ghost use lib.ListN.{length, take};
 ghost use Rattle.iff_tree.specs.Judge.{readFile, checkOf};
-ghost use Rattle.list_capacity.specs.Room.{answerOf, recordsIn, recordsFor, Ready};
+ghost use Rattle.list_capacity.specs.Capacity.{answerOf, recordsIn, recordsFor, Ready};
 ghost use Rattle.list_record_table.specs.Rows.{placed};
 
 // Puts the first n records of a file into a table that has a place for each.

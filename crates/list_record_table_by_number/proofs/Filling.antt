@@ -34,7 +34,7 @@ use Rattle.iff_tree.specs.Judge.{readFile, checkOf}
 use Rattle.iff_tree.specs.declared.Verdict.{Verdict}
 use Rattle.list_spec.specs.declared.Record.{Record}
 use Rattle.list_spec.specs.Records.{countOf}
-use Rattle.list_capacity.specs.Room.{answerOf, recordsFor, toPut}
+use Rattle.list_capacity.specs.Capacity.{answerOf, recordsFor, toPut}
 use Rattle.list_capacity.proofs.RoomLaws.{all-of, no-more-than}
 use Rattle.list_record_table.specs.Rows.{placed}
 use Rattle.iff_tree.proofs.Verdict as Ver

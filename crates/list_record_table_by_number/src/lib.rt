@@ -12,7 +12,7 @@ ghost use lib.ListN.{length};
 ghost use Rattle.iff_tree.specs.Judge.{readFile, checkOf};
 ghost use Rattle.list_spec.specs.declared.Listed.the-variants.{Chunk as Listed-chunk};
 ghost use Rattle.list_spec.specs.Records.{recordOf, countOf};
-ghost use Rattle.list_capacity.specs.Room.{answerOf, recordsIn, recordsFor};
+ghost use Rattle.list_capacity.specs.Capacity.{answerOf, recordsIn, recordsFor};
 ghost use Rattle.list_record_table.specs.Rows.{placed};
 
 // The record of a number below the count. There is one, so the last case is never met.

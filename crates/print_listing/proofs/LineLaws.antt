@@ -12,15 +12,15 @@ use Rattle.print_line.specs.Text.{headText, refusalText}
 use Rattle.ilbm_count.specs.Count as Count
 use Rattle.ilbm_count.specs.declared.Counted.{Counted}
 use Rattle.ilbm_count.specs.declared.Counted.the-variants.{Pictures, Refused as Counted-refused}
-use Rattle.print_listing.specs.Lines.{picturesTold, picturesOf, verdictLines, answerLines, recordLines, listedLines}
+use Rattle.print_listing.specs.Lines.{picturesIn, picturesOf, verdictLines, answerLines, recordLines, listedLines}
 
 -- the count that is told is that of the pictures, or 0
 module _ (s : List ℕ) (c : Counted) (d : c ≡ Count.countOf s) where
   pub counted : (n : ℕ) → c ≡ Pictures n → n ≡ picturesOf s
-  counted n e = ap picturesTold (sym e ∙ d)
+  counted n e = ap picturesIn (sym e ∙ d)
 
   pub uncounted : (k p : ℕ) → c ≡ Counted-refused k p → 0 ≡ picturesOf s
-  uncounted k p e = ap picturesTold (sym e ∙ d)
+  uncounted k p e = ap picturesIn (sym e ∙ d)
 
 module _ (s t : List ℕ) (v : Verdict) (d : v ≡ checkOf s) where
   pub accepted-lines : (n a b k : ℕ) → v ≡ Accepted n a b → k ≡ picturesOf s → t ≡ headText n a b k → t ≡ answerLines s

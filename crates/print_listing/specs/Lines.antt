@@ -14,12 +14,12 @@ use Rattle.ilbm_count.specs.declared.Counted.{Counted}
 use Rattle.ilbm_count.specs.declared.Counted.the-variants.{Pictures, Refused as Counted-refused}
 
 -- how many pictures the file has
-abbrev pub picturesTold : Counted → ℕ
-picturesTold (Pictures n) = n
-picturesTold (Counted-refused k p) = 0
+abbrev pub picturesIn : Counted → ℕ
+picturesIn (Pictures n) = n
+picturesIn (Counted-refused k p) = 0
 
 abbrev pub picturesOf : List ℕ → ℕ
-picturesOf s = picturesTold (Count.countOf s)
+picturesOf s = picturesIn (Count.countOf s)
 
 -- the lines that stand first: "A refusal prints the first two lines only."
 abbrev pub verdictLines : List ℕ → Verdict → List ℕ

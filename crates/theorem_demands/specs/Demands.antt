@@ -13,14 +13,14 @@ use Rattle.iff_grammar.specs.Accept as Accept
 use Rattle.list_spec.specs.declared.Record.{Record}
 use Rattle.list_spec.specs.declared.Listed.the-variants.{Refused as Listed-refused}
 use Rattle.list_spec.specs.Records.{recordOf, countOf}
-use Rattle.list_capacity.specs.Room.{answerOf}
+use Rattle.list_capacity.specs.Capacity.{answerOf}
 use Rattle.list_reader.specs.declared.Step.the-variants.{End}
 use Rattle.list_reader.specs.Reading.{stepAt}
 use Rattle.list_reader.specs.Agree.{placeBefore}
 use Rattle.list_reader.specs.laws.Agree as Reader
 use Rattle.byterun_row.specs.Packing.{Packs}
-use Rattle.byterun_pack.specs.Pack.{packed}
-use Rattle.byterun_pack.specs.laws.Laws as Packing
+use Rattle.byterun_pack.specs.Pack.{packed, mostFor}
+use Rattle.byterun_pack.specs.laws.Packed as Packing
 use Rattle.ilbm_spec.specs.declared.BitmapHeader.{BitmapHeader}
 use Rattle.write_picture.specs.declared.WriteAnswer.the-variants.{Written}
 use Rattle.write_form.specs.File.{pictureFile}
@@ -65,7 +65,7 @@ listings-end = Reader.ends-behind
 pub packed-unpacks : (row : List ℕ) → Packs (packed row) row
 packed-unpacks = Packing.packed-unpacks
 
-pub packed-short : (row : List ℕ) → length (packed row) ≤ Packing.mostFor (length row)
+pub packed-short : (row : List ℕ) → length (packed row) ≤ mostFor (length row)
 packed-short = Packing.packed-short
 
 -- What is written reads back, with an empty default palette: the same fields but pad1, the same palette and frame.

@@ -9,7 +9,7 @@ use Rattle.iff_grammar.specs.Words.{Bytes}
 use Rattle.list_spec.specs.declared.Record.{Record}
 use Rattle.list_spec.specs.declared.Listed.the-variants.{Chunk as Listed-chunk}
 use Rattle.list_spec.specs.Records.{recordOf}
-use Rattle.list_capacity.specs.Room.{recordsFor, answerOf}
+use Rattle.list_capacity.specs.Capacity.{recordsFor, answerOf}
 use Rattle.list_record_table.specs.Rows.{placed}
 use Rattle.list_record_table.specs.laws.Agree.{numbers-agree}
 use Rattle.list_reader.specs.declared.Step.the-variants.{Chunk as Step-chunk}

@@ -10,7 +10,7 @@ use Rattle.iff_copy.specs.declared.Copied.the-variants.{Refused as Copy-refused
 use Rattle.list_spec.specs.Records.{recordOf}
 use Rattle.list_spec.specs.declared.Listed.the-variants.{Refused as Record-refused}
 use Rattle.list_spec.specs.Contents.{dataAnswer}
-use Rattle.list_capacity.specs.Room.{answerOf}
+use Rattle.list_capacity.specs.Capacity.{answerOf}
 use Rattle.list_reader.specs.Reading.{openingOf}
 use Rattle.ilbm_count.specs.Count.{countOf}
 use Rattle.ilbm_count.specs.declared.Counted.the-variants.{Refused as Count-refused}

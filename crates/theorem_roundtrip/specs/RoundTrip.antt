@@ -25,8 +25,8 @@ use Rattle.theorem_roundtrip.specs.Expected.{chunksFor, pictureFor}
 use Rattle.theorem_roundtrip.specs.Header.{InRange, withoutPad}
 use Rattle.theorem_roundtrip.specs.laws.Header.{header-back}
 use Rattle.theorem_roundtrip.specs.laws.Lines.{lines-back}
-use Rattle.theorem_roundtrip.specs.laws.Seen.{contentFor, one-content, picture-told, palette-told, no-refusal}
-use Rattle.theorem_roundtrip.specs.laws.Tree.{file-read, file-told}
+use Rattle.theorem_roundtrip.specs.laws.Seen.{contentFor, one-content, picture-answered, palette-answered, no-refusal}
+use Rattle.theorem_roundtrip.specs.laws.Tree.{file-read, file-answered}
 use Rattle.theorem_roundtrip.specs.laws.Writable.{Writable, written-writable}
 
 -- A file that reads as this picture and holds nothing else.
@@ -69,12 +69,12 @@ module _ (b : BitmapHeader) (palette frame : List ℕ) (room n : ℕ) (range : I
   file-back : ReadsBack (pictureFile b palette frame) b palette frame
   file-back =
       record {
-        accepted = file-told b palette frame (may .short);
+        accepted = file-answered b palette frame (may .short);
         tree = file-read b palette frame (may .short);
         pictures = rw (one-content b palette frame);
         others = λ i. no-more i;
-        picture = ap pictureAnswer view-back ∙ ap Shown (picture-told b palette frame range);
-        paletteBack = ap (λ (v : Viewed). answerIn v []) view-back ∙ rw (palette-told b palette frame);
+        picture = ap pictureAnswer view-back ∙ ap Shown (picture-answered b palette frame range);
+        paletteBack = ap (λ (v : Viewed). answerIn v []) view-back ∙ rw (palette-answered b palette frame);
         frameBack = ap (λ (v : Viewed). frameRead v (b .w * b .h)) view-back ∙ frame-read;
       }
 

@@ -28,7 +28,7 @@ pub record Lowered (x : ℤ) : Type 0 where
   pub low : count < 32768
   pub is : Down x ≡ pos count
   pub bits : toZ w16 (ofZ w16 (Down x)) ≡ pos count
-  pub told : 65535 - count ≡ unsigned x
+  pub lowered : 65535 - count ≡ unsigned x
 
 pub lowered : (x : ℤ) → SFits w16 x → ltZ (toZ w16 (ofZ w16 x)) (pos 0) ≡ true → Lowered x
 lowered x f h = go x f (rw (toZ-ofZ w16 x f) at h) (toZ-ofZ w16 x f)
@@ -39,7 +39,7 @@ lowered x f h = go x f (rw (toZ-ofZ w16 x f) at h) (toZ-ofZ w16 x f)
         let l : k < 32768 = g .sfits in
         let d : Down (negsuc k) ≡ pos k = ap (λ (z : ℤ). negsuc 0 -ℤ z) e ∙ from-below k in
         let s : SFits w16 (pos k) = record { sfits = l } in
-        record { count = k; low = l; is = d; bits = ap (λ (z : ℤ). toZ w16 (ofZ w16 z)) d ∙ toZ-ofZ w16 (pos k) s; told = refl }
+        record { count = k; low = l; is = d; bits = ap (λ (z : ℤ). toZ w16 (ofZ w16 z)) d ∙ toZ-ofZ w16 (pos k) s; lowered = refl }
 
 module _ (x : ℤ) (w : Lowered x) where
   pub lowered-fits : SFits w16 (Down x)
@@ -51,8 +51,8 @@ module _ (x : ℤ) (w : Lowered x) where
   pub lowered-most : natAbs (toZ w16 (ofZ w16 (Down x))) ≤ 65535
   lowered-most = let l = w .low in rw (w .bits) (omega arith)
 
-  pub lowered-told : 65535 - natAbs (toZ w16 (ofZ w16 (Down x))) ≡ unsigned x
-  lowered-told = rw (w .bits) (w .told)
+  pub lowered-is : 65535 - natAbs (toZ w16 (ofZ w16 (Down x))) ≡ unsigned x
+  lowered-is = rw (w .bits) (w .lowered)
 
 -- a number that is not negative
 pub plain-cast : (x : ℤ) → SFits w16 x → ltZ (toZ w16 (ofZ w16 x)) (pos 0) ≡ false →

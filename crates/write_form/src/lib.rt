@@ -1,4 +1,5 @@
 // The bytes of one picture as a FORM ILBM, put into a buffer part by part.
+use iff_name::Name;
 use ilbm_spec::BitmapHeader;
 use write_body::body_len;
 use write_body::put_body;
@@ -9,6 +10,12 @@ ghost use Rattle.write_body.specs.Body.{bodyBytes};
 ghost use Rattle.write_plane_row.specs.Put.{put, Room};
 ghost use Rattle.write_form.specs.File.{unsigned, headerBytes, pictureFile};
 ghost use Rattle.write_form.specs.Parts.{chunkHead, paletteChunk, typeAndHeader, paletteSize};
+
+const FORM: usize = Name::FORM.code as usize;
+
+const CMAP: usize = ilbm_names::CMAP.code as usize;
+
+const BODY: usize = ilbm_names::BODY.code as usize;
 
 // The bytes of a chunk's header.
 fn head_bytes(name: usize, size: usize) -> [u8; 8]
@@ -96,6 +103,7 @@ fn put_header(b: BitmapHeader, out: &mut [u8])
     requires { ⌜ 40 ≤ length (now out) ⌝ }
     ensures { λ _. ⌜ now (out .exit) ≡ put (now (out .entry)) 8 (typeAndHeader b) ⌝ }
 {
+    // ILBM, then BMHD and its size
     let kind = [73u8, 76, 66, 77, 66, 77, 72, 68, 0, 0, 0, 20];
     byterun_copy::copy_run(&kind, 0, out, 8, 12);
     let head = header_bytes(b);
@@ -130,7 +138,7 @@ fn put_palette(palette: &[u8], out: &mut [u8])
 {
     let n = palette.len();
     if n != 0 {
-        put_head(0x434D4150, n, out, 40);
+        put_head(CMAP, n, out, 40);
         byterun_copy::copy_run(palette, 0, out, 48, n);
         put_pad(n, out, 48 + n);
     }
@@ -159,10 +167,10 @@ pub fn put_file(b: BitmapHeader, palette: &[u8], frame: &[u8], body: usize, out:
     ensures { λ _. ⌜ now (out .exit) ≡ put (now (out .entry)) 0 (pictureFile b (now (palette .entry)) (now (frame .entry))) ⌝ }
 {
     let colours = palette_size(palette.len());
-    put_head(0x464F524D, 40 + colours + body + body % 2, out, 0);
+    put_head(FORM, 40 + colours + body + body % 2, out, 0);
     put_header(b, out);
     put_palette(palette, out);
-    put_head(0x424F4459, body, out, 40 + colours);
+    put_head(BODY, body, out, 40 + colours);
     let end = put_body(b, frame, out, 48 + colours);
     put_pad(body, out, end);
 }

@@ -47,19 +47,19 @@ module _ (b : BitmapHeader) (palette frame out : List ℕ) (t : Bool) (d : t ≡
   answer-33 e = answered (Refused 33) out (rw (sym d ∙ e)) refl
 
   module _ (e : t ≡ false) (most : ℕ) (u : Bool) (m : most ≡ 2 ^ b .planes) (v : u ≡ colourOver most frame) where
-    colours-told : u ≡ colourOver (2 ^ b .planes) frame
-    colours-told = v ∙ ap (λ (k : ℕ). colourOver k frame) m
+    colours-answered : u ≡ colourOver (2 ^ b .planes) frame
+    colours-answered = v ∙ ap (λ (k : ℕ). colourOver k frame) m
 
     pub answer-34 : u ≡ true → Answers (Refused 34) out
-    answer-34 f = answered (Refused 34) out (rw (sym d ∙ e, sym colours-told ∙ f)) refl
+    answer-34 f = answered (Refused 34) out (rw (sym d ∙ e, sym colours-answered ∙ f)) refl
 
     module _ (f : u ≡ false) (size : ℕ) (z : length (pictureFile b palette frame) ≡ size) where
       pub answer-35 : 16777216 < size → Answers (Refused 35) out
-      answer-35 g = answered (Refused 35) out (rw (sym d ∙ e, sym colours-told ∙ f, z, lt-ltb 16777216 size g)) refl
+      answer-35 g = answered (Refused 35) out (rw (sym d ∙ e, sym colours-answered ∙ f, z, lt-ltb 16777216 size g)) refl
 
       module _ (g : size ≤ 16777216) where
         pub answer-32 : length out < size → Answers (Refused 32) out
-        answer-32 h = answered (Refused 32) out (rw (sym d ∙ e, sym colours-told ∙ f, z, le-ltb 16777216 size g, lt-ltb (length out) size h)) refl
+        answer-32 h = answered (Refused 32) out (rw (sym d ∙ e, sym colours-answered ∙ f, z, le-ltb 16777216 size g, lt-ltb (length out) size h)) refl
 
         pub room-0 : size ≤ length out → Room (pictureFile b palette frame) out 0
         room-0 h = record { fits = omega arith; short = omega arith }
@@ -67,4 +67,4 @@ module _ (b : BitmapHeader) (palette frame out : List ℕ) (t : Bool) (d : t ≡
         pub answer-0 : (after : List ℕ) → size ≤ length out → after ≡ put out 0 (pictureFile b palette frame) → Answers (Written size) after
         answer-0 after h w =
             let y : 0 + length (pictureFile b palette frame) ≡ size = omega arith in
-            answered (Written size) after (rw (sym d ∙ e, sym colours-told ∙ f, z, le-ltb 16777216 size g, le-ltb (length out) size h)) (w ∙ rw y)
+            answered (Written size) after (rw (sym d ∙ e, sym colours-answered ∙ f, z, le-ltb 16777216 size g, le-ltb (length out) size h)) (w ∙ rw y)

@@ -6,7 +6,7 @@ use native.Mathlib.Omega.{arith}
 use Rattle.byterun_row.specs.laws.Bytes.{Bytes, bytes-none, bytes-cons, bytes-at, bytes-append, bytes-take, bytes-drop}
 use Rattle.byterun_pieces.specs.Pieces.{pieceOf}
 use Rattle.byterun_pack.specs.Pack.{onPiece, packed}
-use Rattle.byterun_pack.specs.laws.Laws.{Taken, piece-taken, packed-none, packed-step}
+use Rattle.byterun_pack.specs.laws.Packed.{Taken, piece-taken, packed-none, packed-step}
 use Rattle.byterun_pieces.specs.declared.Piece.{Piece}
 use Rattle.byterun_pieces.specs.declared.Piece.the-variants.{Repeat, Literal}
 

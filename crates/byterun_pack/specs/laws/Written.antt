@@ -1,4 +1,4 @@
--- Laws of Written.
+-- A row as the writer writes it, packed or plain, reads back as the row and grows by no more than a packed one.
 use Prim.Native.Nat.{ℕ, _+_, _≤_}
 use mathlib.Core.Path.{_≡_}
 use mathlib.Core.List.{List, _++_}
@@ -9,8 +9,8 @@ use native.Mathlib.Omega.{arith}
 use Rattle.iff_name.specs.Name.{pick}
 use Rattle.byterun_row.specs.ByteRun.{filled, plainRow, unpackRow, rowOf}
 use Rattle.byterun_row.specs.laws.Packing.{plain-stands, packs-unpack}
-use Rattle.byterun_pack.specs.Pack.{packed}
-use Rattle.byterun_pack.specs.laws.Laws.{packed-unpacks, mostFor, packed-short}
+use Rattle.byterun_pack.specs.Pack.{packed, mostFor}
+use Rattle.byterun_pack.specs.laws.Packed.{packed-unpacks, packed-short}
 use Rattle.byterun_pack.specs.Written.{writtenRow}
 
 -- from any place in any BODY it is read as the row, and the next row starts where it ends

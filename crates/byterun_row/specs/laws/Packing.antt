@@ -1,4 +1,4 @@
--- Laws of Packing.
+-- A string of codes that unpacks to a row does so from any place of any BODY; literals and repeats are put before such strings.
 use Prim.Native.Nat.{ℕ, suc, _+_, _-_, _<_, _≤_}
 use mathlib.Core.Path.{_≡_, refl, sym, ap, _∙_}
 use mathlib.Core.List.{List, [], _∷_, _++_, append-assoc}
@@ -8,7 +8,7 @@ use borrow.Author.Tests.{le-leb, lt-ltb, le-ltb, ne-eqb}
 use native.Mathlib.Omega.{arith}
 use native.Mathlib.Nat.{add-zero}
 use Rattle.byterun_row.specs.ByteRun.{Row, filled, codeOf, prepend, unpackRow, plainRow}
-use Rattle.byterun_row.specs.laws.Laws.{row-none, row-step}
+use Rattle.byterun_row.specs.laws.Steps.{row-none, row-step}
 use Rattle.byterun_row.specs.declared.Code.the-variants.{Copy, Repeat}
 use Rattle.byterun_row.specs.Packing.{Packs}
 

@@ -1,7 +1,7 @@
 -- `read_row` meets its contract: a row that was judged full may be written, and a refusal leaves it.
 use lib.ListN.{length}
 use Rattle.byterun_row.specs.ByteRun.{Row, rowOf}
-use Rattle.byterun_row.specs.laws.Laws.{judged-full}
+use Rattle.byterun_row.specs.laws.Steps.{judged-full}
 use Rattle.byterun_unpack.proofs.Plain.{read-full, read-over, read-short}
 use borrow.Author.Needs.{needs}
 use Rattle.byterun_unpack.proofs.read_row.Statement.{statement}

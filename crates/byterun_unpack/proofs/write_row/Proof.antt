@@ -1,5 +1,5 @@
 -- `write_row` meets its contract: the test of the compression picks the row.
-use Rattle.byterun_row.specs.laws.Laws.{row-plain, row-packed}
+use Rattle.byterun_row.specs.laws.Steps.{row-plain, row-packed}
 use borrow.Author.Needs.{needs}
 use Rattle.byterun_unpack.proofs.write_row.Statement.{statement}
 use Rattle.byterun_unpack.proofs.write_row.Tie as tie

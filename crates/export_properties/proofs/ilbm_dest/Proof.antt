@@ -1,4 +1,4 @@
--- What is stored is what `destination_told` tells of the answer of `picture`.
+-- What is stored is what `destination_numbers` tells of the answer of `picture`.
 use Rattle.export_property_numbers.specs.Properties.{destinationNumbers}
 use Rattle.export_property_numbers.proofs.Properties.{numbers-of}
 use Rattle.export_properties.proofs.ilbm_dest.Statement.{statement}

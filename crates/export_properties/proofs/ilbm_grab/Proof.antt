@@ -1,4 +1,4 @@
--- What is stored is what `grab_told` tells of the answer of `picture`; the signed fields go through bits, and fit.
+-- What is stored is what `grab_numbers` tells of the answer of `picture`; the signed fields go through bits, and fit.
 use Rattle.export_property_numbers.proofs.Properties.{grab-stored}
 use Rattle.export_properties.proofs.ilbm_grab.Statement.{statement}
 use Rattle.export_properties.proofs.ilbm_grab.Tie as tie

@@ -1,4 +1,4 @@
--- What is stored is what `header_told` tells of the answer of `picture`; the signed fields go through bits, and fit.
+-- What is stored is what `header_numbers` tells of the answer of `picture`; the signed fields go through bits, and fit.
 use Rattle.export_property_numbers.proofs.Properties.{header-stored}
 use Rattle.export_properties.proofs.ilbm_header.Statement.{statement}
 use Rattle.export_properties.proofs.ilbm_header.Tie as tie

@@ -1,4 +1,4 @@
--- What is stored is what `sprite_told` tells of the answer of `picture`.
+-- What is stored is what `sprite_numbers` tells of the answer of `picture`.
 use Rattle.export_property_numbers.specs.Properties.{spriteNumbers}
 use Rattle.export_property_numbers.proofs.Properties.{numbers-of}
 use Rattle.export_properties.proofs.ilbm_sprite.Statement.{statement}

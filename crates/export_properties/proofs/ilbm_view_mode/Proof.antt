@@ -1,4 +1,4 @@
--- What is stored is what `view_mode_told` tells of the answer of `picture`.
+-- What is stored is what `view_mode_numbers` tells of the answer of `picture`.
 use Rattle.export_property_numbers.specs.Properties.{viewModeNumbers}
 use Rattle.export_property_numbers.proofs.Properties.{numbers-of}
 use Rattle.export_properties.proofs.ilbm_view_mode.Statement.{statement}

@@ -1,4 +1,4 @@
--- `answer_told` meets its contract, by the cases of the answer.
+-- `answer_numbers` meets its contract, by the cases of the answer.
 use borrow.Author.Needs.{needs}
 use Rattle.export_table.proofs.TableNumbers.{numbers-filled, numbers-refused}
 use Rattle.export_table.proofs.answer_numbers.Statement.{statement}

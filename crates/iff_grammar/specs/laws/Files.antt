@@ -140,5 +140,5 @@ verdict-file s b n e t v = go (readFile s) (file-sound s b) v
         (c, R, g, one, two ∙ file-next s c R g, three ∙ file-length s c R g)
     go (refused k p) g x = let z : _≡_ {A = ℕ} 0 1 = cc in absurd (omega arith)
 
-pub file-told : (s : List ℕ) (n e t : ℕ) → HasTree s n e t → checkOf s ≡ Accepted n e t
-file-told s n e t h = file-verdict s (h .0) (h .1) (h .2) ∙ rw (h .3, h .4, h .5)
+pub file-answered : (s : List ℕ) (n e t : ℕ) → HasTree s n e t → checkOf s ≡ Accepted n e t
+file-answered s n e t h = file-verdict s (h .0) (h .1) (h .2) ∙ rw (h .3, h .4, h .5)

@@ -1,4 +1,4 @@
--- Laws of Read.
+-- Chunks that are written down are read back at their places: name, size, data, pad, and what follows.
 use Prim.Native.Nat.{ℕ, _+_, _%_, _≤_}
 use mathlib.Core.Path.{_≡_, refl, sym, ap, _∙_}
 use mathlib.Core.List.{List, _++_, append-assoc}

@@ -1,4 +1,4 @@
--- Laws of Coming.
+-- At each place of a sound file the first of the chunks still to come is read there, and at the next place the rest are still to come.
 use Prim.Native.Nat.{ℕ, _+_, _-_, _*_, _%_, _≤_, _<_}
 use mathlib.Core.Path.{_≡_, refl, sym, ap, _∙_, subst}
 use mathlib.Core.List.{List, [], _++_, append-assoc}

@@ -1,4 +1,4 @@
--- Laws of Order.
+-- Chunks in a row and then others: their bytes, their number and what may stand among them add up.
 use Prim.Native.Nat.{ℕ, _+_, _*_, _≤_, _<_}
 use mathlib.Core.Path.{_≡_, refl, ap, _∙_}
 use mathlib.Core.List.{List, _++_, append-assoc}

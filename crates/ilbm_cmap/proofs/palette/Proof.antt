@@ -156,8 +156,8 @@ module _ {M : Type 1} (𝓤 : URA M) (H : Heap 𝓤) (A : Atoms 𝓤) (W : Given
     abbrev made : RefT (List ℕ) → PaletteAnswer
     made r = record { number = c .number; place = c .place; colours = r }
 
-    abbrev told : List ℕ → Answer
-    told bytes = record { number = c .number; place = c .place; colours = bytes }
+    abbrev answered : List ℕ → Answer
+    answered bytes = record { number = c .number; place = c .place; colours = bytes }
 
     exits :
         (r : RefT (List ℕ)) → ColoursAre (now s) i c → Handed r → c .number < 2 ^ 64 → c .place < 2 ^ 64 →
@@ -165,7 +165,7 @@ module _ {M : Type 1} (𝓤 : URA M) (H : Heap 𝓤) (A : Atoms 𝓤) (W : Given
     exits r e f n-fits p-fits =
         qed W (‵ (Own r) ∷ (‵ (flft κ q) ⊛ ‵ ftrue) ∷ ‵ All ∷ []) ∵
         suffices ! _ (ends-at 𝓤 H A palette.ended stayed (palette.clauses 𝓤 H A mem run) W (((κ, tt), (q, tt), tt, args, vals), tt) (T′.lowered (made r)) (made r) (tt, (tt, (tt, tt))) (tt, (tt, (tt, tt)))) $
-        says ! (ap told (f .0) ∙ e .answer (now d), f .1 ∙ e .lies (s .ptr) (d .ptr)) $ move ! (1 ∷ []) $ frame ! $ move ! (1 ∷ []) $ frame ! $
+        says ! (ap answered (f .0) ∙ e .answer (now d), f .1 ∙ e .lies (s .ptr) (d .ptr)) $ move ! (1 ∷ []) $ frame ! $ move ! (1 ∷ []) $ frame ! $
         nothing ! $ move ! (1 ∷ 0 ∷ []) $ fjoin ! $ owned ! usize (Is usize) (uint-makes 𝓤 H A W w64) (c .place) _ (refl, p-fits) $ fjoin ! $
         owned ! usize (Is usize) (uint-makes 𝓤 H A W w64) (c .number) _ (refl, n-fits) $ fjoin ! $
         by ! (own-shut 𝓤 H A W (T.the-type α) (T′.the-laws α) (c .number, (c .place, (r, tt))))

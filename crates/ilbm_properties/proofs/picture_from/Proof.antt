@@ -1,5 +1,5 @@
 -- Each property has the size that the judgement asked for, so that its fields can be read; the header and the origins are copied.
-use Rattle.ilbm_properties.proofs.Laws.{grab-right, dest-right, sprt-right, camg-right, picture-told}
+use Rattle.ilbm_properties.proofs.Laws.{grab-right, dest-right, sprt-right, camg-right, picture-answered}
 use borrow.Author.Needs.{needs}
 use Rattle.ilbm_properties.proofs.picture_from.Statement.{statement}
 use Rattle.ilbm_properties.proofs.picture_from.Tie as tie
@@ -21,7 +21,7 @@ returns c =
     let word = c .before in
     let destination = word .before in
     let grab = destination .before in
-    picture-told _ _ _ _ _ _ _ (grab .grab-of .ensures) (destination .destination-of .ensures) (word .word-of .ensures) (c .long-of .ensures)
+    picture-answered _ _ _ _ _ _ _ (grab .grab-of .ensures) (destination .destination-of .ensures) (word .word-of .ensures) (c .long-of .ensures)
 
 pub picture-from-spec : {M : Type 1} → statement M
 picture-from-spec =

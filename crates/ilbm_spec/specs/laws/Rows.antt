@@ -1,4 +1,4 @@
--- Laws of Rows.
+-- One reading finds one value and one next place.
 use Prim.Native.Nat.{ℕ}
 use mathlib.Core.Path.{_≡_, ap}
 use Rattle.iff_tree.specs.Judge.{found}

@@ -1,4 +1,4 @@
--- Laws of Agree.
+-- The reader gives the record of each number in turn, and then the end for ever.
 use Prim.Native.Nat.{ℕ, zero, suc, _≤_, _<_}
 use mathlib.Core.Path.{_≡_, refl, sym, ap, _∙_}
 use mathlib.Core.Bool.{Bool, true, false}
@@ -20,9 +20,9 @@ use Rattle.list_spec.specs.laws.Counts.{length-records, refused-record, record-
 use Rattle.list_cursor.specs.declared.Cursor.{Cursor}
 use Rattle.list_cursor.specs.Cursors.{recordAt, onwardAt}
 use Rattle.list_cursor.specs.laws.Walk.{located-record, located-place, located-first, located-onward, onward-number}
-use Rattle.list_checked_cursor.specs.Anywhere.{liesAt, readAt, movedAt}
-use Rattle.list_checked_cursor.specs.laws.Anywhere.{located-lies}
-use Rattle.list_capacity.specs.Room.{recordsFor}
+use Rattle.list_checked_cursor.specs.Checked.{liesAt, readAt, movedAt}
+use Rattle.list_checked_cursor.specs.laws.Checked.{located-lies}
+use Rattle.list_capacity.specs.Capacity.{recordsFor}
 use Rattle.list_columns.specs.Columns.{column}
 use Rattle.list_reader.specs.declared.Place.{Place}
 use Rattle.list_reader.specs.declared.Step.the-variants.{Chunk as Step-chunk, End}

@@ -42,7 +42,7 @@ use denote.Exit.{yes}
 use Rattle.iff_tree.specs.Judge.{checkOf}
 use Rattle.iff_tree.specs.declared.Verdict.{Verdict}
 use Rattle.list_spec.specs.declared.Record.{Record}
-use Rattle.list_capacity.specs.Room.{answerOf, toPut, Ready}
+use Rattle.list_capacity.specs.Capacity.{answerOf, toPut, Ready}
 use Rattle.list_capacity.proofs.RoomLaws.{all-of, no-more-than}
 use Rattle.list_record_table.specs.Rows.{placed}
 use Rattle.list_record_table.proofs.RowLaws.{partly}

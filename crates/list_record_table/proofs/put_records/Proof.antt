@@ -47,7 +47,7 @@ use Rattle.list_spec.specs.declared.Listed.the-variants.{Chunk as Listed-chunk}
 use Rattle.list_spec.specs.Records.{recordOf}
 use Rattle.list_cursor.specs.declared.Cursor.{Cursor}
 use Rattle.list_cursor.specs.Cursors.{firstCursor, Located}
-use Rattle.list_capacity.specs.Room.{Ready}
+use Rattle.list_capacity.specs.Capacity.{Ready}
 use Rattle.list_record_table.proofs.RowLaws.{partly}
 use Rattle.list_spec.proofs.Record as Rec
 use Rattle.list_spec.proofs.Record.Laws as Rec′

@@ -14,7 +14,7 @@ use Rattle.list_spec.specs.declared.Record.{Record}
 use Rattle.list_spec.specs.declared.Listed.the-variants.{Chunk as Listed-chunk}
 use Rattle.list_spec.specs.Records.{recordsOf, pickRecord, recordIn, recordOf}
 use Rattle.list_spec.specs.laws.Counts.{length-records}
-use Rattle.list_capacity.specs.Room.{recordsFor, answerOf}
+use Rattle.list_capacity.specs.Capacity.{recordsFor, answerOf}
 use Rattle.list_columns.specs.Columns.{column}
 use Rattle.list_record_table.specs.Rows.{placed}
 

@@ -47,7 +47,7 @@ use Rattle.iff_tree.specs.declared.Verdict.{Verdict}
 use Rattle.list_spec.specs.declared.Record.{Record}
 use Rattle.list_spec.specs.declared.Listed.the-variants.{Chunk as Listed-chunk}
 use Rattle.list_spec.specs.Records.{recordOf}
-use Rattle.list_capacity.specs.Room.{toPut}
+use Rattle.list_capacity.specs.Capacity.{toPut}
 use Rattle.iff_tree.proofs.Verdict as Ver
 use Rattle.iff_tree.proofs.Verdict.Laws as Ver′
 use Rattle.list_spec.proofs.Record as Rec

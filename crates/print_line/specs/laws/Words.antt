@@ -1,4 +1,4 @@
--- Laws of Words.
+-- The word that a kind is printed as has the letters of its name.
 use mathlib.Core.Path.{_≡_, refl}
 use Rattle.iff_name.specs.declared.Kind.{Kind}
 use Rattle.iff_name.specs.declared.Kind.the-variants.{FORM, LIST, CAT, PROP, FILLER, LOCAL}

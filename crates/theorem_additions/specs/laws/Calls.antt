@@ -1,5 +1,5 @@
--- No call looks at the place of a shared PROP but to tell it, so where the contents of all pictures are the same but for these places,
--- every call answers the same but for them.
+-- No call looks at the place of a chunk but to tell it, so where the contents of all pictures are the same but for their places, every call
+-- answers the same but for them.
 use Prim.Native.Nat.{ℕ, zero, suc, _+_, _-_}
 use mathlib.Core.Path.{_≡_, refl, sym, ap, _∙_}
 use mathlib.Core.Bool.{Bool, true, false}

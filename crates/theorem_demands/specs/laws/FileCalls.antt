@@ -20,7 +20,7 @@ use Rattle.list_spec.specs.declared.Listed.the-variants.{Chunk as Listed-chunk,
 use Rattle.list_spec.specs.declared.Extent.{Extent}
 use Rattle.list_spec.specs.Records.{recordsOf, pickRecord, recordIn, recordOf}
 use Rattle.list_spec.specs.Contents.{extentAt, extentIn, dataAnswer}
-use Rattle.list_capacity.specs.Room.{answerOf}
+use Rattle.list_capacity.specs.Capacity.{answerOf}
 use Rattle.list_reader.specs.Reading.{refusalIn, openingOf}
 use Rattle.ilbm_count.specs.declared.Counted.{Counted}
 use Rattle.ilbm_count.specs.declared.Counted.the-variants.{Pictures, Refused as Count-refused}

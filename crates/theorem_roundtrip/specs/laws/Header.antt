@@ -1,4 +1,4 @@
--- Laws of Header.
+-- A header that is written as BMHD is read back with the same fields but pad1.
 use Prim.Native.Nat.{ℕ, _+_, _-_, _*_, _/_, _%_}
 use mathlib.Core.Path.{_≡_}
 use lib.IntN.{ℤ, pos, negsuc}

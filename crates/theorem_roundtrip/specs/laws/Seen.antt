@@ -51,13 +51,13 @@ palette-origin : (p : ℕ) (palette : List ℕ) → originOf (paletteProperty p 
 palette-origin p [] = refl
 palette-origin p (x ∷ xs) = refl
 
-pub picture-told : (b : BitmapHeader) (palette frame : List ℕ) → InRange b → pictureFrom (contentFor b palette frame) ≡ pictureFor b palette
+pub picture-answered : (b : BitmapHeader) (palette frame : List ℕ) → InRange b → pictureFrom (contentFor b palette frame) ≡ pictureFor b palette
 unfolding pictureFrom hotSpotIn destinationIn word
-picture-told b palette frame r = rw (header-back b r, palette-origin (cmapPlace b) palette)
+picture-answered b palette frame r = rw (header-back b r, palette-origin (cmapPlace b) palette)
 
-pub palette-told : (b : BitmapHeader) (palette frame : List ℕ) → paletteFrom (contentFor b palette frame .cmap) [] ≡ palette
-palette-told b [] frame = refl
-palette-told b (x ∷ xs) frame = refl
+pub palette-answered : (b : BitmapHeader) (palette frame : List ℕ) → paletteFrom (contentFor b palette frame .cmap) [] ≡ palette
+palette-answered b [] frame = refl
+palette-answered b (x ∷ xs) frame = refl
 
 triples-right : (p : ℕ) (palette : List ℕ) → length palette % 3 ≡ 0 → sizeNotTriples (paletteProperty p palette) ≡ false
 triples-right p [] e = refl

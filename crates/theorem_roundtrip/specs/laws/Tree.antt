@@ -54,6 +54,6 @@ module _ (b : BitmapHeader) (palette frame : List ℕ) (short : length (pictureF
   pub file-read : readFile (pictureFile b palette frame) ≡ found (pictureForm b palette frame)
   file-read = complete (pictureFile b palette frame) (pictureForm b palette frame) [] chunk-file
 
-  pub file-told : checkOf (pictureFile b palette frame) ≡ Accepted (chunksFor palette) (length (pictureFile b palette frame)) 0
+  pub file-answered : checkOf (pictureFile b palette frame) ≡ Accepted (chunksFor palette) (length (pictureFile b palette frame)) 0
   unfolding pictureFile
-  file-told = ends (pictureFile b palette frame) (pictureForm b palette frame) [] chunk-file .1 ∙ ap (λ (k : ℕ). Accepted k (length (pictureFile b palette frame)) 0) (form-count b palette frame)
+  file-answered = ends (pictureFile b palette frame) (pictureForm b palette frame) [] chunk-file .1 ∙ ap (λ (k : ℕ). Accepted k (length (pictureFile b palette frame)) 0) (form-count b palette frame)

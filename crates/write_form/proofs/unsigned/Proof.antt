@@ -1,5 +1,5 @@
 -- The number is tested for its sign; each arm has its law.
-use Rattle.write_form.proofs.Signed.{lowered, lowered-fits, lowered-cast, lowered-most, lowered-told, plain-cast}
+use Rattle.write_form.proofs.Signed.{lowered, lowered-fits, lowered-cast, lowered-most, lowered-is, plain-cast}
 use Rattle.write_form.proofs.unsigned.Statement.{statement}
 use Rattle.write_form.proofs.unsigned.Tie as tie
 
@@ -13,7 +13,7 @@ sub-result : tie.Need-sub-result
 sub-result c = lowered-most _ (lowered _ (c .before .fits .x) (c .if1 .taken))
 
 returns : tie.Need-returns
-returns c = lowered-told _ (lowered _ (c .before .fits .x) (c .if1 .taken))
+returns c = lowered-is _ (lowered _ (c .before .fits .x) (c .if1 .taken))
 
 cast-result-2 : tie.Need-cast-result-2
 cast-result-2 c = plain-cast _ (c .before .fits .x) (c .if1 .left) .0

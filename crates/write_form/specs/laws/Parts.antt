@@ -1,4 +1,4 @@
--- Laws of Parts.
+-- The file is its parts one behind the other, and its length the sum of theirs.
 use Prim.Native.Nat.{ℕ, _+_, _%_}
 use mathlib.Core.Path.{_≡_, refl, _∙_}
 use mathlib.Core.List.{List, [], _∷_, _++_, append-assoc, append-nil}

@@ -1,4 +1,4 @@
--- Laws of `unpackRow` with no fuel in them: more fuel than the BODY's length changes nothing, since every code moves the place on,
+-- One step of unpacking: what each code does to a row, and where the row ends.
 -- so a row that is not full is its code carried out, and the rest of the row read from there.
 use Prim.Native.Nat.{ℕ, zero, suc, _+_, _-_, _<_, _≤_}
 use mathlib.Core.Path.{_≡_, refl, sym, ap, _∙_}

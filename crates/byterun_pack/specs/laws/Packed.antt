@@ -13,7 +13,7 @@ use Rattle.iff_name.specs.Name.{pick}
 use Rattle.byterun_row.specs.Packing.{Packs}
 use Rattle.byterun_row.specs.laws.Packing.{packs-none, packs-literal, packs-repeat}
 use Rattle.byterun_pieces.specs.Pieces.{three, sameFor, plainFor, pieceOf}
-use Rattle.byterun_pack.specs.Pack.{onPiece, packBy, packed}
+use Rattle.byterun_pack.specs.Pack.{onPiece, packBy, packed, mostFor}
 use Rattle.byterun_pieces.specs.declared.Piece.{Piece}
 use Rattle.byterun_pieces.specs.declared.Piece.the-variants.{Repeat, Literal}
 
@@ -191,10 +191,6 @@ unpacks-by (suc f) xs l = unpacks-more f xs l (λ ys m. unpacks-by f ys m)
 -- the packed row unpacks to the row, from any place in any BODY, and ends exactly there
 pub packed-unpacks : (row : List ℕ) → Packs (packed row) row
 packed-unpacks row = unpacks-by (length row) row (omega arith)
-
--- the most bytes that n bytes pack to: n, and one for every 128 of them that are begun
-abbrev pub mostFor : ℕ → ℕ
-mostFor n = n + (n + 127) / 128
 
 -- a row packed to so many bytes is short enough, and has a byte to spare where it starts with a repeat
 abbrev Short : List ℕ → ℕ → Type 0

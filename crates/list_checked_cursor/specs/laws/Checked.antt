@@ -1,4 +1,4 @@
--- Laws of Anywhere.
+-- The tests of a cursor that may stand anywhere hold exactly where a chunk lies, and always where a walk led it.
 use Prim.Native.Nat.{ℕ, _+_, _%_, _≤_, _<_}
 use mathlib.Core.Path.{_≡_, refl, sym, ap, _∙_}
 use mathlib.Core.Bool.{Bool, true, false}
@@ -13,7 +13,7 @@ use Rattle.list_spec.specs.Records.{countOf}
 use Rattle.list_cursor.specs.declared.Cursor.{Cursor}
 use Rattle.list_cursor.specs.Cursors.{groupAt, Lies, Located}
 use Rattle.list_cursor.specs.laws.Walk.{located-header, located-type, located-end, located-enterable, located-past, located-passable}
-use Rattle.list_checked_cursor.specs.Anywhere.{groupLies, plainLies, kindLies, liesAt}
+use Rattle.list_checked_cursor.specs.Checked.{groupLies, plainLies, kindLies, liesAt}
 
 -- a test that holds, before others that hold
 both : (a b : ℕ) (x : Bool) → pick (leb a b) x false ≡ true → (a ≤ b) × (x ≡ true)
@@ -35,19 +35,19 @@ plain-facts n p l z e = let a = both (p + 8 + z + z % 2) n (leb l 17) e in (a .0
 
 module _ (s : List ℕ) (cur : Cursor) where
   -- what is told of the chunk by its kind
-  told-group : kindLies s cur true ≡ true → (cur .place + 12 ≤ length s) × (cur .place + 8 + word s (cur .place + 4) ≤ length s) × (1 ≤ cur .level) × (cur .level ≤ 16)
-  told-group t = group-facts (length s) (cur .place) (cur .level) (word s (cur .place + 4)) t
+  answered-group : kindLies s cur true ≡ true → (cur .place + 12 ≤ length s) × (cur .place + 8 + word s (cur .place + 4) ≤ length s) × (1 ≤ cur .level) × (cur .level ≤ 16)
+  answered-group t = group-facts (length s) (cur .place) (cur .level) (word s (cur .place + 4)) t
 
-  told-plain : kindLies s cur false ≡ true → (cur .place + 8 + word s (cur .place + 4) + word s (cur .place + 4) % 2 ≤ length s) × (cur .level ≤ 17)
-  told-plain t = plain-facts (length s) (cur .place) (cur .level) (word s (cur .place + 4)) t
+  answered-plain : kindLies s cur false ≡ true → (cur .place + 8 + word s (cur .place + 4) + word s (cur .place + 4) % 2 ≤ length s) × (cur .level ≤ 17)
+  answered-plain t = plain-facts (length s) (cur .place) (cur .level) (word s (cur .place + 4)) t
 
   known : length s ≤ 16777216 → cur .number ≤ cur .place → cur .place + 8 ≤ length s → kindLies s cur (groupAt s cur) ≡ true → Lies s cur
   known a b c t = record {
     short = a;
     header = c;
-    type = λ i. told-group (ap (kindLies s cur) (sym i) ∙ t) .0;
-    into = λ i. let f = told-group (ap (kindLies s cur) (sym i) ∙ t) in record { type = omega arith; ends = omega arith; low = b; level = f .2; slot = f .3 };
-    past = λ i. let f = told-plain (ap (kindLies s cur) (sym i) ∙ t) in record { ends = omega arith; low = b; deep = f .1 };
+    type = λ i. answered-group (ap (kindLies s cur) (sym i) ∙ t) .0;
+    into = λ i. let f = answered-group (ap (kindLies s cur) (sym i) ∙ t) in record { type = omega arith; ends = omega arith; low = b; level = f .2; slot = f .3 };
+    past = λ i. let f = answered-plain (ap (kindLies s cur) (sym i) ∙ t) in record { ends = omega arith; low = b; deep = f .1 };
   }
 
   pub lies-known : liesAt s cur ≡ true → Lies s cur
