@@ -23,6 +23,8 @@ pub struct Answers {
     view_mode: Told<u32>,
     /// The palette's bytes.
     palette: Told<Vec<u8>>,
+    /// Where the CMAP that counts has its data in the file.
+    extent: Option<(usize, usize)>,
     /// The next place, and the row.
     lines: Vec<Written>,
     /// How many bytes are left over, and the frame.
@@ -40,6 +42,7 @@ impl Answers {
             let mut frame = frame.clone();
             (florinhado::frame(file, picture, &mut frame), frame)
         };
+        let palette = florinhado::palette(file, picture, &asked.default);
         let bytes = |told: Property<&[u8]>| Property { value: told.value.to_vec(), origin: told.origin };
         Answers {
             header: florinhado::header(file, picture),
@@ -47,7 +50,8 @@ impl Answers {
             destination: florinhado::destination(file, picture),
             sprite: florinhado::sprite(file, picture),
             view_mode: florinhado::view_mode(file, picture),
-            palette: florinhado::palette(file, picture, &asked.default).map(bytes),
+            extent: palette.ok().and_then(|told| extent(file, &told)),
+            palette: palette.map(bytes),
             lines: asked.lines.iter().map(line).collect(),
             frames: asked.frames.iter().map(frame).collect(),
         }
@@ -73,6 +77,10 @@ impl Answers {
             destination: told.map(|told| property(&told.destination, destination)),
             sprite: told.map(|told| property(&told.precedence, |value| *value)),
             view_mode: told.map(|told| property(&told.view_modes, |value| *value)),
+            extent: told
+                .ok()
+                .and_then(|told| told.colour_map.value.clone())
+                .map(|range| (range.start, range.end)),
             palette: palette.and_then(|bytes| {
                 told.map(|told| Property { value: bytes.to_vec(), origin: origin(told.colour_map.origin) })
             }),
@@ -91,12 +99,13 @@ impl Answers {
             sprite: Err(refused),
             view_mode: Err(refused),
             palette: Err(refused),
+            extent: None,
             lines: asked.lines.iter().map(|(_, row)| untouched(row)).collect(),
             frames: asked.frames.iter().map(untouched).collect(),
         }
     }
 
-    /// The same with the places of shared PROPs moved.
+    /// The same with the places of shared PROPs and of the CMAP moved.
     pub fn moved(self, place: &impl Fn(usize) -> usize) -> Answers {
         Answers {
             header: moved(self.header, place),
@@ -105,6 +114,7 @@ impl Answers {
             sprite: moved(self.sprite, place),
             view_mode: moved(self.view_mode, place),
             palette: moved(self.palette, place),
+            extent: self.extent.map(|(from, to)| (place(from - 8) + 8, place(from - 8) + 8 + to - from)),
             ..self
         }
     }
@@ -118,6 +128,12 @@ impl Answers {
     pub fn is_shown(&self) -> bool {
         self.frames.iter().any(|(told, _)| told.is_ok())
     }
+}
+
+/// Where the palette's bytes lie in the file, unless they are the default's.
+fn extent(file: &[u8], told: &Property<&[u8]>) -> Option<(usize, usize)> {
+    let from = (told.value.as_ptr() as usize).wrapping_sub(file.as_ptr() as usize);
+    (told.origin != Origin::Absent).then_some((from, from + told.value.len()))
 }
 
 /// The second reader's result as it would stand in what was lent.
