@@ -44,7 +44,7 @@ pub fn colours_of(s: &[u8], i: usize) -> Colours
 }
 
 // That part of the file, or the default.
-pub fn part_or<'a>(s: &'a [u8], c: Colours, default: &'a [u8]) -> &'a [u8]
+fn part_or<'a>(s: &'a [u8], c: Colours, default: &'a [u8]) -> &'a [u8]
     requires { ⌜ PartIn (now s) (c .part) ⌝ }
     ensures { λ r. ⌜ (now r ≡ partOr (now (s .entry)) (c .part) (now (default .entry))) ×
         (r .ptr ≡ partAt (s .entry .ptr) (c .part) (default .entry .ptr)) ⌝ }
