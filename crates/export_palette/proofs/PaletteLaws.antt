@@ -8,8 +8,9 @@ use lib.Seq.{slice}
 use Rattle.iff_grammar.specs.laws.Words.{slice-take}
 use Rattle.ilbm_spec.specs.declared.BitmapHeader.{BitmapHeader}
 use Rattle.ilbm_spec.specs.Contents.{Located, Property, own, shared, absent}
-use Rattle.ilbm_spec.specs.Pictures.{Viewed, viewOf, originOf, paletteFrom}
+use Rattle.ilbm_spec.specs.Pictures.{Viewed, viewOf, paletteFrom}
 use Rattle.ilbm_spec.specs.Palette.{Extent, extentOf, extentFrom, answerIn, paletteAnswer}
+use Rattle.ilbm_content.proofs.Laws.{origin-is}
 use Rattle.ilbm_content.specs.declared.Part.{Part}
 use Rattle.ilbm_content.specs.declared.Part.the-variants.{Nothing, Between}
 use Rattle.ilbm_content.specs.declared.Held.{Held}
@@ -54,11 +55,6 @@ held-holds : (s : List ℕ) (h : Held) (q : Property) → HeldIs s h q → slice
 held-holds s h (own x) k = part-holds s (h .part) x (k .1)
 held-holds s h (shared p x) k = part-holds s (h .part) x (k .1)
 held-holds s h absent k = rw (k .1) (slice-take s 0 0)
-
-origin-is : (s : List ℕ) (h : Held) (q : Property) → HeldIs s h q → h .origin ≡ originOf q
-origin-is s h (own x) k = k .0
-origin-is s h (shared p x) k = k .0
-origin-is s h absent k = k .0
 
 parts-numbers : (s : List ℕ) (y : Viewed) (v : View) → ViewIs s v y → paletteParts v ≡ paletteNumbers y
 unfolding paletteParts paletteNumbers

@@ -11,6 +11,7 @@ use Rattle.iff_chunk.specs.Chunks.{Chunks, word}
 use Rattle.ilbm_spec.specs.declared.Origin.the-variants.{Own, Shared as Shared-by, Absent}
 use Rattle.ilbm_spec.specs.Names.{BMHD, CMAP, GRAB, DEST, SPRT, CAMG}
 use Rattle.ilbm_spec.specs.Contents.{Located, lastNamed, atBody, Property, own, shared, absent, Scope as Shares, ownOr, propertyOf, bodiesFrom, contentOf}
+use Rattle.ilbm_spec.specs.Pictures.{originOf}
 use Rattle.ilbm_members.specs.declared.Gathered.{Gathered}
 use Rattle.ilbm_members.specs.Members.{Holds, Row, Marks}
 use Rattle.ilbm_members.specs.Gathers.{LastIs, firstOf, Gathers}
@@ -121,3 +122,9 @@ module _ (s : List ℕ) (form e : ℕ) (c : Scope) (g : Gathered) (r : Contents)
 
 pub body-marked : (s : List ℕ) (p e : ℕ) (g : Gathered) → Row s p e → Gathers s p e false g → Marked s (g .body)
 body-marked s p e g (F, R, h) w = (firstOf (bodiesFrom p F), w .bodies .at F R h .1)
+
+-- what is told of a property's origin is its own
+pub origin-is : (s : List ℕ) (h : Held) (q : Property) → HeldIs s h q → h .origin ≡ originOf q
+origin-is s h (own x) k = k .0
+origin-is s h (shared p x) k = k .0
+origin-is s h absent k = k .0

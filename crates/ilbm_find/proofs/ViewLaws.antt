@@ -10,6 +10,7 @@ use Rattle.iff_tree.specs.Judge.{Found, found, refused, readFile, verdictOf, ch
 use Rattle.iff_tree.specs.declared.Verdict.{Verdict}
 use Rattle.iff_tree.specs.declared.Verdict.the-variants.{Refused}
 use Rattle.iff_walk.specs.Coming.{Sound}
+use Rattle.ilbm_spec.specs.declared.BitmapHeader.{BitmapHeader}
 use Rattle.ilbm_spec.specs.Contents.{Scope as Shares, noScope, Content, contentOf, contentsOf}
 use Rattle.ilbm_spec.specs.Pictures.{pictureRefusal, judged, pickContent, viewIn, viewOf}
 use Rattle.ilbm_members.specs.Members.{Holds, Row}
@@ -25,7 +26,7 @@ use Rattle.ilbm_refusals.specs.declared.Judgement.{Judgement}
 use Rattle.ilbm_refusals.specs.Refusals.{Full, JudgementIs}
 use Rattle.ilbm_find.specs.declared.View.{View}
 use Rattle.ilbm_find.specs.declared.View.the-variants.{Seen, Refused as View-refused}
-use Rattle.ilbm_find.specs.Seen.{ViewIs, FormIn, FormView}
+use Rattle.ilbm_find.specs.Seen.{ViewIs, Judged, FormIn, FormView}
 
 -- the FORM at a place
 module _ (s : List ℕ) (form : ℕ) (p : Scope) (z : ℕ) (i : z ≡ word s (form + 4)) where
@@ -112,3 +113,7 @@ refused-view s i (refused a b) k p e = cc
 
 pub view-refused : (s : List ℕ) (i : ℕ) (v : Verdict) (k p : ℕ) → v ≡ checkOf s → v ≡ Refused k p → viewOf s i ≡ refused k p
 view-refused s i v k p a b = refused-view s i (readFile s) k p (sym b ∙ a)
+
+pub seen-judged :
+    (s : List ℕ) (i : ℕ) (v : View) → ViewIs s v (viewOf s i) → (c : Contents) (b : BitmapHeader) → v ≡ Seen c b → Judged s c b
+seen-judged s i v w c b j = let x : ViewIs s (Seen c b) (viewOf s i) = rw j at w in (x .0, x .2)

@@ -21,6 +21,10 @@ pub record Shown (s : List ℕ) (c : Contents) (h : BitmapHeader) (x : Content) 
   pub sound : pictureRefusal x ≡ 0
   pub header : h ≡ headerIn (dataOf (x .bmhd))
 
+-- some picture that is not refused has these parts and this header
+abbrev pub Judged : List ℕ → Contents → BitmapHeader → Type 0
+Judged s c h = (x : Content) × Shown s c h x
+
 -- the picture that is seen, or the refusal
 abbrev pub ViewIs : List ℕ → View → Viewed → Type 0
 ViewIs s (Seen c h) v = (x : Content) × (v ≡ found x) × Shown s c h x

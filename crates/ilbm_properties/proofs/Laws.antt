@@ -18,17 +18,18 @@ use Rattle.ilbm_spec.specs.declared.PictureAnswer.the-variants.{Shown, Refused}
 use Rattle.ilbm_spec.specs.Contents.{Property, own, shared, absent, Content}
 use Rattle.ilbm_spec.specs.Pictures.{u16, headerIn, hotSpotIn, destinationIn, dataOf, originOf, counts, sizeNot, sizeNotTriples, wrongSize, headerRefusal, pictureRefusal, pictureFrom, viewOf, pictureOf}
 use Rattle.ilbm_spec.specs.laws.Pictures.{sizes-right}
+use Rattle.ilbm_content.proofs.Laws.{origin-is}
 use Rattle.ilbm_content.specs.declared.Part.the-variants.{Nothing, Between}
 use Rattle.ilbm_content.specs.declared.Held.{Held}
 use Rattle.ilbm_content.specs.declared.Contents.{Contents}
 use Rattle.ilbm_content.specs.Held.{HeldIs}
 use Rattle.ilbm_find.specs.declared.View.{View}
 use Rattle.ilbm_find.specs.declared.View.the-variants.{Seen, Refused as View-refused}
-use Rattle.ilbm_find.specs.Seen.{ViewIs}
+use Rattle.ilbm_find.specs.Seen.{ViewIs, Judged}
 use Rattle.ilbm_refusals.proofs.Laws.{held-some, held-none}
 use Rattle.ilbm_refusals.proofs.RefusalLaws.{held-data, data-taken}
 use Rattle.iff_tree.specs.Judge.{refused}
-use Rattle.ilbm_properties.specs.Fields.{OfSize, Judged, GrabIs, DestinationIs, WordIs, LongIs, PictureIs}
+use Rattle.ilbm_properties.specs.Fields.{OfSize, GrabIs, DestinationIs, WordIs, LongIs, PictureIs}
 
 not-false : (b : Bool) → not b ≡ false → b ≡ true
 not-false true e = refl
@@ -129,11 +130,6 @@ module _ (s : List ℕ) (c : Contents) (b : BitmapHeader) (j : Judged s c b) whe
   pub camg-right : OfSize s (c .camg) 4
   camg-right = (j .0 .camg, j .1 .parts .camg, all .4)
 
-origin-is : (s : List ℕ) (h : Held) (q : Property) → HeldIs s h q → h .origin ≡ originOf q
-origin-is s h (own d) k = k .0
-origin-is s h (shared p d) k = k .0
-origin-is s h absent k = k .0
-
 pub picture-answered :
     (s : List ℕ) (c : Contents) (b : BitmapHeader) (g : HotSpot) (d : Destination) (w m : ℕ) →
     GrabIs s (c .grab) g → DestinationIs s (c .dest) d → WordIs s (c .sprt) w → LongIs s (c .camg) m →
@@ -172,9 +168,6 @@ picture-answered s c b g d w m G D W M =
 
 -- from the view to the answers
 module _ (s : List ℕ) (i : ℕ) (v : View) (w : ViewIs s v (viewOf s i)) where
-  pub seen-judged : (c : Contents) (b : BitmapHeader) → v ≡ Seen c b → Judged s c b
-  seen-judged c b j = let x : ViewIs s (Seen c b) (viewOf s i) = rw j at w in (x .0, x .2)
-
   pub picture-seen : (c : Contents) (b : BitmapHeader) (r : Picture) → v ≡ Seen c b → PictureIs s c b r → Shown r ≡ pictureOf s i
   picture-seen c b r j k = let x : ViewIs s (Seen c b) (viewOf s i) = rw j at w in rw (x .1) (ap Shown (k .at (x .0) (x .2)))
 

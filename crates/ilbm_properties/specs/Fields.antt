@@ -19,10 +19,6 @@ use Rattle.ilbm_find.specs.Seen.{Shown}
 abbrev pub OfSize : List ℕ → Held → ℕ → Type 0
 OfSize s h n = (q : Property) × HeldIs s h q × (sizeNot n q ≡ false)
 
--- the parts and the header are those of some picture that is not refused
-abbrev pub Judged : List ℕ → Contents → BitmapHeader → Type 0
-Judged s c b = (x : Content) × Shown s c b x
-
 pub record GrabIs (s : List ℕ) (h : Held) (r : HotSpot) : Type 0 where
   pub at : (q : Property) → HeldIs s h q → r ≡ hotSpotIn (dataOf q)
 

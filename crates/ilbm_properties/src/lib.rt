@@ -15,7 +15,8 @@ use ilbm_spec::Picture;
 use ilbm_spec::PictureAnswer;
 ghost use mathlib.Core.Path.{_≡_};
 ghost use Rattle.ilbm_spec.specs.Pictures.{pictureOf};
-ghost use Rattle.ilbm_properties.specs.Fields.{OfSize, Judged, GrabIs, DestinationIs, WordIs, LongIs, PictureIs};
+ghost use Rattle.ilbm_find.specs.Seen.{Judged};
+ghost use Rattle.ilbm_properties.specs.Fields.{OfSize, GrabIs, DestinationIs, WordIs, LongIs, PictureIs};
 
 fn grab_of(s: &[u8], h: Held) -> HotSpot
     requires { ⌜ OfSize (now s) h 4 ⌝ }

@@ -17,8 +17,8 @@ use Rattle.ilbm_members.specs.Gathers.{firstOf}
 use Rattle.ilbm_content.specs.declared.Part.the-variants.{Between}
 use Rattle.ilbm_content.specs.declared.Contents.{Contents}
 use Rattle.ilbm_content.specs.Held.{Shows}
-use Rattle.ilbm_find.specs.Seen.{Shown}
-use Rattle.ilbm_rows.specs.Lines.{Judged, LineDone, FrameDone}
+use Rattle.ilbm_find.specs.Seen.{Shown, Judged}
+use Rattle.ilbm_rows.specs.Lines.{LineDone, FrameDone}
 
 -- the BODY that lies in a part
 pub record FirstBody (s : List ℕ) (a b : ℕ) (bodies : List Located) : Type 0 where

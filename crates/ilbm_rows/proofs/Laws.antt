@@ -19,7 +19,7 @@ use Rattle.ilbm_find.specs.declared.View.{View}
 use Rattle.ilbm_find.specs.declared.View.the-variants.{Seen, Refused as View-refused}
 use Rattle.ilbm_find.specs.Seen.{ViewIs}
 use Rattle.iff_tree.specs.Judge.{refused}
-use Rattle.ilbm_rows.specs.Lines.{Judged, LineDone, FrameDone}
+use Rattle.ilbm_rows.specs.Lines.{LineDone, FrameDone}
 
 no-body : (s : List ℕ) (bodies : List Located) → Shows s Nothing (firstOf bodies) → bodies ≡ []
 no-body s [] w = refl
@@ -36,9 +36,6 @@ module _ (s : List ℕ) (c : Contents) (h : BitmapHeader) (i : c .body ≡ Nothi
 
 -- from the view to the answers
 module _ (s : List ℕ) (i : ℕ) (v : View) (w : ViewIs s v (viewOf s i)) where
-  pub seen-judged : (c : Contents) (h : BitmapHeader) → v ≡ Seen c h → Judged s c h
-  seen-judged c h j = let x : ViewIs s (Seen c h) (viewOf s i) = rw j at w in (x .0, x .2)
-
   pub line-seen :
       (c : Contents) (h : BitmapHeader) (start : ℕ) (old new : List ℕ) (r : LineAnswer) → v ≡ Seen c h → LineDone s c h start old r new →
       (r ≡ lineAnswer (lineOf s i start (length old))) × (new ≡ bytesAfter (lineOf s i start (length old)) old)

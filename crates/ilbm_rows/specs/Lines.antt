@@ -12,10 +12,6 @@ use Rattle.ilbm_content.specs.declared.Contents.{Contents}
 use Rattle.iff_tree.specs.Judge.{found}
 use Rattle.ilbm_find.specs.Seen.{Shown}
 
--- the parts and the header are those of some picture that is not refused
-abbrev pub Judged : List ℕ → Contents → BitmapHeader → Type 0
-Judged s c h = (x : Content) × Shown s c h x
-
 -- the answer, and what stands in the row afterwards
 pub record LineDone (s : List ℕ) (c : Contents) (h : BitmapHeader) (start : ℕ) (old : List ℕ) (r : LineAnswer) (new : List ℕ) : Type 0 where
   pub answer : (x : Content) → Shown s c h x → r ≡ lineAnswer (lineRead (found x) start (length old))

@@ -11,7 +11,8 @@ use ilbm_spec::LineAnswer;
 ghost use mathlib.Core.Path.{_≡_};
 ghost use lib.ListN.{length};
 ghost use Rattle.ilbm_spec.specs.Rows.{lineOf, frameOf, lineAnswer, frameAnswer, bytesAfter};
-ghost use Rattle.ilbm_rows.specs.Lines.{Judged, LineDone, FrameDone};
+ghost use Rattle.ilbm_find.specs.Seen.{Judged};
+ghost use Rattle.ilbm_rows.specs.Lines.{LineDone, FrameDone};
 
 // A scan line of a picture that is not refused.
 fn picture_line(

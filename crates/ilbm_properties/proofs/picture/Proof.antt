@@ -1,5 +1,6 @@
 -- The view of the picture, told field by field, or its refusal passed on.
-use Rattle.ilbm_properties.proofs.Laws.{seen-judged, picture-seen, picture-refused}
+use Rattle.ilbm_find.proofs.ViewLaws.{seen-judged}
+use Rattle.ilbm_properties.proofs.Laws.{picture-seen, picture-refused}
 use borrow.Author.Needs.{needs}
 use Rattle.ilbm_properties.proofs.picture.Statement.{statement}
 use Rattle.ilbm_properties.proofs.picture.Tie as tie

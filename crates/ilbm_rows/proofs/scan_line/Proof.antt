@@ -1,6 +1,7 @@
 -- A picture that is seen was judged; a refusal is passed on and leaves the row.
 use borrow.Author.Needs.{needs}
-use Rattle.ilbm_rows.proofs.Laws.{seen-judged, line-seen, line-refused}
+use Rattle.ilbm_find.proofs.ViewLaws.{seen-judged}
+use Rattle.ilbm_rows.proofs.Laws.{line-seen, line-refused}
 use Rattle.ilbm_rows.proofs.scan_line.Statement.{statement}
 use Rattle.ilbm_rows.proofs.scan_line.Tie as tie
 

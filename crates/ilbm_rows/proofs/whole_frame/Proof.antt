@@ -1,6 +1,7 @@
 -- A picture that is seen was judged; a refusal is passed on and leaves the frame.
 use borrow.Author.Needs.{needs}
-use Rattle.ilbm_rows.proofs.Laws.{seen-judged, frame-seen, frame-refused}
+use Rattle.ilbm_find.proofs.ViewLaws.{seen-judged}
+use Rattle.ilbm_rows.proofs.Laws.{frame-seen, frame-refused}
 use Rattle.ilbm_rows.proofs.whole_frame.Statement.{statement}
 use Rattle.ilbm_rows.proofs.whole_frame.Tie as tie
 
