@@ -42,7 +42,8 @@ part-extent : (s : List ℕ) (p : Part) (x : Located) → Shows s p (some x) →
 part-extent s Nothing x w = absurd w
 part-extent s (Between a b) x w = (w .3, sym (w .1) ∙ rw (w .3))
 
-held-extent : (s : List ℕ) (h : Held) (q : Property) → HeldIs s h q → (fromOf (h .part) ≡ extentFrom q .from) × (toOf (h .part) ≡ extentFrom q .to)
+held-extent : (s : List ℕ) (h : Held) (q : Property) → HeldIs s h q → (fromOf (h .part) ≡ extentFrom q .from) ×
+    (toOf (h .part) ≡ extentFrom q .to)
 held-extent s h (own x) k = part-extent s (h .part) x (k .1)
 held-extent s h (shared p x) k = part-extent s (h .part) x (k .1)
 held-extent s h absent k = rw (k .1) (refl, refl)
@@ -64,7 +65,8 @@ parts-numbers s y (Seen c b) (x, e, z) =
     rw (e, origin-is s (c .cmap) (x .cmap) k, w .0, w .1)
 parts-numbers s y (View-refused k p) e = rw e
 
-parts-hold : (s : List ℕ) (y : Viewed) (v : View) → ViewIs s v y → slice (paletteParts v .from) (paletteParts v .to) s ≡ answerIn y [] .colours
+parts-hold : (s : List ℕ) (y : Viewed) (v : View) → ViewIs s v y →
+    slice (paletteParts v .from) (paletteParts v .to) s ≡ answerIn y [] .colours
 unfolding paletteParts
 parts-hold s y (Seen c b) (x, e, z) = rw e (held-holds s (c .cmap) (x .cmap) (z .parts .cmap))
 parts-hold s y (View-refused k p) e = rw e (slice-take s 0 0)

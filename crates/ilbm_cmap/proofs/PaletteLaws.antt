@@ -22,13 +22,15 @@ use Rattle.iff_tree.specs.Judge.{refused}
 use Rattle.ilbm_cmap.specs.Parts.{PartIn, partOr, partAt, ColoursAre}
 
 -- the part of a property, or the default: its bytes, where it begins, and that it lies inside
-part-is : (s : List ℕ) (h : Held) (q : Property) (p : Part) (default : List ℕ) → HeldIs s h q → h .part ≡ p → partOr s p default ≡ paletteFrom q default
+part-is : (s : List ℕ) (h : Held) (q : Property) (p : Part) (default : List ℕ) → HeldIs s h q → h .part ≡ p →
+    partOr s p default ≡ paletteFrom q default
 part-is s h (own d) Nothing default k i = absurd (rw i at (k .1))
 part-is s h (own d) (Between a b) default k i = data-taken s h (own d) a b k i
 part-is s h (shared q d) Nothing default k i = absurd (rw i at (k .1))
 part-is s h (shared q d) (Between a b) default k i = data-taken s h (shared q d) a b k i
 part-is s h absent Nothing default k i = refl
-part-is s h absent (Between a b) default k i = absurd (let j : Nothing ≡ Between a b = sym (k .1) ∙ i in let z : _≡_ {A = ℕ} 0 1 = cc in omega arith)
+part-is s h absent (Between a b) default k i = absurd (let j : Nothing ≡ Between a b = sym (k .1) ∙ i in
+    let z : _≡_ {A = ℕ} 0 1 = cc in omega arith)
 
 part-lies :
     (s : List ℕ) (h : Held) (q : Property) (p : Part) (file default : ℕ × ℕ) → HeldIs s h q → h .part ≡ p →
@@ -38,7 +40,8 @@ part-lies s h (own x) (Between a b) file default k i = let w : Shows s (Between 
 part-lies s h (shared q d) Nothing file default k i = absurd (rw i at (k .1))
 part-lies s h (shared q x) (Between a b) file default k i = let w : Shows s (Between a b) (some x) = rw i at (k .1) in rw (w .3)
 part-lies s h absent Nothing file default k i = refl
-part-lies s h absent (Between a b) file default k i = absurd (let j : Nothing ≡ Between a b = sym (k .1) ∙ i in let z : _≡_ {A = ℕ} 0 1 = cc in omega arith)
+part-lies s h absent (Between a b) file default k i = absurd (let j : Nothing ≡ Between a b = sym (k .1) ∙ i in
+    let z : _≡_ {A = ℕ} 0 1 = cc in omega arith)
 
 part-in : (s : List ℕ) (h : Held) (q : Property) (p : Part) → HeldIs s h q → h .part ≡ p → PartIn s p
 part-in s h q Nothing k i = tt
@@ -60,7 +63,8 @@ part-placed file default p a b i = rw i
 
 -- from the view to the colours
 module _ (s : List ℕ) (i : ℕ) (v : View) (w : ViewIs s v (viewOf s i)) where
-  pub colours-seen : (c : Contents) (b : BitmapHeader) → v ≡ Seen c b → ColoursAre s i (record { number = 0; place = 0; part = c .cmap .part })
+  pub colours-seen : (c : Contents) (b : BitmapHeader) → v ≡ Seen c b →
+      ColoursAre s i (record { number = 0; place = 0; part = c .cmap .part })
   colours-seen c b j =
       let (x, e, y) : ViewIs s (Seen c b) (viewOf s i) = rw j at w in
       let k = y .parts in

@@ -10,7 +10,8 @@ use native.Mathlib.Omega.{arith}
 use Rattle.iff_chunk.specs.Chunks.{Chunks, word}
 use Rattle.ilbm_spec.specs.declared.Origin.the-variants.{Own, Shared as Shared-by, Absent}
 use Rattle.ilbm_spec.specs.Names.{BMHD, CMAP, GRAB, DEST, SPRT, CAMG}
-use Rattle.ilbm_spec.specs.Contents.{Located, lastNamed, atBody, Property, own, shared, absent, Scope as Shares, ownOr, propertyOf, bodiesFrom, contentOf}
+use Rattle.ilbm_spec.specs.Contents.{Located, lastNamed, atBody, Property, own, shared, absent, Scope as Shares, ownOr, propertyOf}
+use Rattle.ilbm_spec.specs.Contents.{bodiesFrom, contentOf}
 use Rattle.ilbm_spec.specs.Pictures.{originOf}
 use Rattle.ilbm_members.specs.declared.Gathered.{Gathered}
 use Rattle.ilbm_members.specs.Members.{Holds, Row, Marks}
@@ -72,10 +73,12 @@ module _ (s : List ℕ) (k : ℕ) (h : Shared) where
     none-own : {A : Type 0} (x : Located) → Marks s k (some x) → A
     none-own x m = absurd (omega (arith, m .1))
 
-    pub shared-counts : (r : Part) → (h .place ≡ 0 → ⊥) → PartIs s (h .place) r → OwnOrShared s k h (record { part = r; origin = Shared-by (h .prop) })
+    pub shared-counts : (r : Part) → (h .place ≡ 0 → ⊥) → PartIs s (h .place) r →
+        OwnOrShared s k h (record { part = r; origin = Shared-by (h .prop) })
     shared-counts r y w = record { at = go }
       where
-        go : (o : Option Located) (q : Property) → Marks s k o → SharedIs s h q → HeldIs s (record { part = r; origin = Shared-by (h .prop) }) (ownOr o q)
+        go : (o : Option Located) (q : Property) → Marks s k o → SharedIs s h q →
+            HeldIs s (record { part = r; origin = Shared-by (h .prop) }) (ownOr o q)
         go (some x) q m v = none-own x m
         go nothing (own x) m v = absurd v
         go nothing (shared p x) m v = (ap Shared-by (v .0), w .at (some x) (v .1))
@@ -84,7 +87,8 @@ module _ (s : List ℕ) (k : ℕ) (h : Shared) where
     pub nothing-counts : h .place ≡ 0 → OwnOrShared s k h (record { part = Nothing; origin = Absent })
     nothing-counts y = record { at = go }
       where
-        go : (o : Option Located) (q : Property) → Marks s k o → SharedIs s h q → HeldIs s (record { part = Nothing; origin = Absent }) (ownOr o q)
+        go : (o : Option Located) (q : Property) → Marks s k o → SharedIs s h q →
+            HeldIs s (record { part = Nothing; origin = Absent }) (ownOr o q)
         go (some x) q m v = none-own x m
         go nothing (own x) m v = absurd v
         go nothing (shared p x) m v = absurd (omega (arith, v .1 .1))
@@ -101,8 +105,10 @@ last-marked s p e name x (F, R, h) w = (lastNamed atBody name p nothing F, w .at
 -- all of it
 module _ (s : List ℕ) (form e : ℕ) (c : Scope) (g : Gathered) (r : Contents) (w : Gathers s (form + 12) e false g) where
   pub all-content :
-      OwnOrShared s (g .bmhd) (c .bmhd) (r .bmhd) → OwnOrShared s (g .cmap) (c .cmap) (r .cmap) → OwnOrShared s (g .grab) (c .grab) (r .grab) →
-      OwnOrShared s (g .dest) (c .dest) (r .dest) → OwnOrShared s (g .sprt) (c .sprt) (r .sprt) → OwnOrShared s (g .camg) (c .camg) (r .camg) →
+      OwnOrShared s (g .bmhd) (c .bmhd) (r .bmhd) → OwnOrShared s (g .cmap) (c .cmap) (r .cmap) →
+      OwnOrShared s (g .grab) (c .grab) (r .grab) →
+      OwnOrShared s (g .dest) (c .dest) (r .dest) → OwnOrShared s (g .sprt) (c .sprt) (r .sprt) →
+      OwnOrShared s (g .camg) (c .camg) (r .camg) →
       r .bodies ≡ g .bodies → PartIs s (g .body) (r .body) → ContentIs s form e c r
   unfolding propertyOf
   all-content a b d f i j n y =

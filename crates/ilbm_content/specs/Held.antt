@@ -58,4 +58,5 @@ pub record OwnOrShared (s : List ℕ) (k : ℕ) (h : Shared) (r : Held) : Type 0
 
 -- the content of the FORM at a place, whose members end at e
 pub record ContentIs (s : List ℕ) (form e : ℕ) (c : Scope) (r : Contents) : Type 0 where
-  pub at : (G : Chunks) (R : List ℕ) (scope : Shares) → Holds s (form + 12) e G R → ScopeIs s c scope → ContentsAre s r (contentOf form G scope)
+  pub at : (G : Chunks) (R : List ℕ) (scope : Shares) → Holds s (form + 12) e G R → ScopeIs s c scope →
+      ContentsAre s r (contentOf form G scope)

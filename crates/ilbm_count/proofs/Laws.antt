@@ -105,7 +105,8 @@ pub counting-start : (s : List ℕ) (e : ℕ) (f : Sound s e) → Counting s e 0
 counting-start s e f =
     record { coming = before (f .chunk) none; stand = f .start; sum = omega (arith, contents-forms 0 noScope (before (f .chunk) none)) }
 
-pub counting-end : (s : List ℕ) (e p n : ℕ) (f : Sound s e) → e ≤ p → Counting s e p n (length (contentsOf (f .chunk))) → Pictures n ≡ countOf s
+pub counting-end : (s : List ℕ) (e p n : ℕ) (f : Sound s e) → e ≤ p → Counting s e p n (length (contentsOf (f .chunk))) →
+    Pictures n ≡ countOf s
 unfolding forms
 counting-end s e p n f l w =
     let z : n + forms none ≡ length (contentsOf (f .chunk)) = rw (coming-none s p e (w .coming) (w .stand) l) at (w .sum) in

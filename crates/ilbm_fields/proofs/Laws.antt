@@ -36,7 +36,8 @@ pub same-bits : (r z : ℤ) → SFits w16 r → r ≡ z → toZ w16 (ofZ w16 r) 
 same-bits r z f e = toZ-ofZ w16 r f ∙ e
 
 -- the fields of a record, one by one
-pub hot-spot : (d : List ℕ) (a b : ℤ) → a ≡ signed (u16 d 0) → b ≡ signed (u16 d 2) → _≡_ {A = HotSpot} (record { x = a; y = b }) (hotSpotIn d)
+pub hot-spot : (d : List ℕ) (a b : ℤ) → a ≡ signed (u16 d 0) → b ≡ signed (u16 d 2) →
+    _≡_ {A = HotSpot} (record { x = a; y = b }) (hotSpotIn d)
 unfolding hotSpotIn
 hot-spot d a b i j = cc
 

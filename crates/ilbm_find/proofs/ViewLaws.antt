@@ -44,7 +44,8 @@ module _ (s : List ℕ) (form : ℕ) (p : Scope) (z : ℕ) (i : z ≡ word s (fo
       pub form-seen : r .number ≡ 0 → FormView s form p (Seen c (r .header))
       form-seen j = record { at = go }
         where
-          go : (G : Chunks) (scope : Shares) → Opens s form G → ScopeIs s p scope → ViewIs s (Seen c (r .header)) (judged (contentOf form G scope))
+          go : (G : Chunks) (scope : Shares) → Opens s form G → ScopeIs s p scope →
+              ViewIs s (Seen c (r .header)) (judged (contentOf form G scope))
           go G scope o k =
               let x = w .at G (o .0) scope (rw i (o .1)) k in
               let e : pictureRefusal (contentOf form G scope) ≡ 0 = sym (v .number (contentOf form G scope) x) ∙ j in
@@ -53,7 +54,8 @@ module _ (s : List ℕ) (form : ℕ) (p : Scope) (z : ℕ) (i : z ≡ word s (fo
       pub form-refused : (r .number ≡ 0 → ⊥) → FormView s form p (View-refused (r .number) 0)
       form-refused j = record { at = go }
         where
-          go : (G : Chunks) (scope : Shares) → Opens s form G → ScopeIs s p scope → ViewIs s (View-refused (r .number) 0) (judged (contentOf form G scope))
+          go : (G : Chunks) (scope : Shares) → Opens s form G → ScopeIs s p scope →
+              ViewIs s (View-refused (r .number) 0) (judged (contentOf form G scope))
           go G scope o k =
               let e = v .number (contentOf form G scope) (w .at G (o .0) scope (rw i (o .1)) k) in
               rw (← e, ne-eqb _ _ j)

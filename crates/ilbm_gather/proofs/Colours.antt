@@ -75,7 +75,8 @@ module _ (buffer : List ℕ) (n planes x : ℕ) (h : planes ≤ 8) where
         let e : planes - (k - 1) ≡ suc (planes - k) = omega arith in
         let f : suc (k - 1) ≡ k = omega arith in
         let g : colourBy 1 x (take n (drop ((k - 1) * n) buffer) ∷ rowsIn n (planes - k) k buffer) ≡ colour * 2 + b / 2 ^ (7 - x % 8) % 2 =
-        colour-front x (take n (drop ((k - 1) * n) buffer)) (rowsIn n (planes - k) k buffer) ∙ rw (row-bit n (k - 1) x buffer m, i, c .is) in
+        colour-front x (take n (drop ((k - 1) * n) buffer)) (rowsIn n (planes - k) k buffer) ∙
+        rw (row-bit n (k - 1) x buffer m, i, c .is) in
         coloured (k - 1) (colour * 2 + b / 2 ^ (7 - x % 8) % 2) (rw (e, f) (sym g))
 
     pub coloured-end : k ≤ 0 → colour ≡ colourBy 1 x (rowsIn n planes 0 buffer)
@@ -101,7 +102,8 @@ pub ruleset colouring = (coloured-start, coloured-more, coloured-end, byte-insid
 colours-last : (x n : ℕ) (rows : List (List ℕ)) → coloursFrom x (suc n) rows ≡ coloursFrom x n rows ++ (colourBy 1 (x + n) rows ∷ [])
 unfolding coloursFrom
 colours-last x zero rows = let e : x + 0 ≡ x = omega arith in rw e
-colours-last x (suc n) rows = let e : x + suc n ≡ suc x + n = omega arith in rw e (ap (λ (l : List ℕ). colourBy 1 x rows ∷ l) (colours-last (suc x) n rows))
+colours-last x (suc n) rows = let e : x + suc n ≡ suc x + n = omega arith in
+    rw e (ap (λ (l : List ℕ). colourBy 1 x rows ∷ l) (colours-last (suc x) n rows))
 
 colours-count : (x n : ℕ) (rows : List (List ℕ)) → length (coloursFrom x n rows) ≡ n
 unfolding coloursFrom

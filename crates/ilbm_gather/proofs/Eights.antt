@@ -29,7 +29,8 @@ unfolding all
 all-at f zero e k h = absurd (omega arith)
 all-at f (suc n) e k h = go (λ w o. all-at f n w k o) (f n) refl (ltb k n) refl e
   where
-    go : (all f n ≡ true → k < n → f k ≡ true) → (t : Bool) → f n ≡ t → (u : Bool) → ltb k n ≡ u → pick t (all f n) false ≡ true → f k ≡ true
+    go : (all f n ≡ true → k < n → f k ≡ true) → (t : Bool) → f n ≡ t → (u : Bool) → ltb k n ≡ u → pick t (all f n) false ≡ true →
+        f k ≡ true
     go ih false p u q w = let z : _≡_ {A = ℕ} 0 1 = cc in absurd (omega arith)
     go ih true p true q w = ih w (ltb-true k n q)
     go ih true p false q w = let o = ltb-false k n q in let z : k ≡ n = omega arith in rw z p
@@ -97,12 +98,23 @@ module _ (buffer : List ℕ) (n planes byte : ℕ) (h : planes ≤ 8) where
       one :
           (i : ℕ) → i < 8 →
           colourBy 1 (8 * byte + i) (rowsIn n (planes - (k - 1)) (k - 1) buffer) ≡ colourBy 1 (8 * byte + i) (rowsIn n (planes - k) k buffer) * 2 + b / 2 ^ (7 - i) % 2
-      one i o = plane-more k i o z l m ∙ ap (λ (t : ℕ). colourBy 1 (8 * byte + i) (rowsIn n (planes - k) k buffer) * 2 + t / 2 ^ (7 - i) % 2) (sym is)
+      one i o = plane-more k i o z l m ∙
+          ap (λ (t : ℕ). colourBy 1 (8 * byte + i) (rowsIn n (planes - k) k buffer) * 2 + t / 2 ^ (7 - i) % 2) (sym is)
 
       sum : v * 2 + r ≡ eight (λ i. colourBy 1 (8 * byte + i) (rowsIn n (planes - (k - 1)) (k - 1) buffer))
       sum =
           let q = c .is in
-          omega (arith, one 0 (omega arith), one 1 (omega arith), one 2 (omega arith), one 3 (omega arith), one 4 (omega arith), one 5 (omega arith), one 6 (omega arith), one 7 (omega arith))
+          omega (
+            arith,
+            one 0 (omega arith),
+            one 1 (omega arith),
+            one 2 (omega arith),
+            one 3 (omega arith),
+            one 4 (omega arith),
+            one 5 (omega arith),
+            one 6 (omega arith),
+            one 7 (omega arith),
+          )
 
       pub eighted-more : Eighted buffer n planes byte (k - 1) (v * 2 + r)
       eighted-more = record { is = sum }
@@ -171,7 +183,8 @@ module _ (buffer : List ℕ) (n planes : ℕ) (h : planes ≤ 8) (j v : ℕ) (ro
       let y : 8 * (j + 1) ≡ 8 * j + 8 = omega arith in
       let z : 0 + 8 * j ≡ 8 * j = omega arith in
       let b = bytes-eight (λ i. colourBy 1 (8 * j + i) (rowsIn n planes 0 buffer)) (λ i. rw f at (colour-byte buffer n planes (8 * j + i) h 0)) in
-      let t : take (8 * j + 8) row′ ≡ take (8 * j) row ++ bytesOf v = rw p (take-paste row (8 * j) (bytesOf v) 8 (omega arith) (omega arith)) in
+      let t : take (8 * j + 8) row′ ≡ take (8 * j) row ++ bytesOf v =
+      rw p (take-paste row (8 * j) (bytesOf v) 8 (omega arith) (omega arith)) in
       let q : bytesOf v ≡ coloursFrom (8 * j) 8 (rowsIn n planes 0 buffer) = rw (e, colours-eight (8 * j) (rowsIn n planes 0 buffer)) b in
       record { is = rw (y, t, g .is, q) (sym (rw z at (colours-append 0 (8 * j) 8 (rowsIn n planes 0 buffer)))) }
 

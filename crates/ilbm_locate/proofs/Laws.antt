@@ -25,7 +25,8 @@ never e = absurd (let z : _≡_ {A = ℕ} 0 1 = cc in omega arith)
 
 -- the name at q of a leaf is no group's
 pub leaf-no-group :
-    (s : List ℕ) (q e n : ℕ) (d pd : List ℕ) (F : Chunks) (R : List ℕ) → Holds s q e (leaf n d pd F) R → isGroup (kindOf (word s q)) ≡ true → ⊥
+    (s : List ℕ) (q e n : ℕ) (d pd : List ℕ) (F : Chunks) (R : List ℕ) → Holds s q e (leaf n d pd F) R →
+    isGroup (kindOf (word s q)) ≡ true → ⊥
 leaf-no-group s q e n d pd F R h g =
     let i = leaf-name s q n d pd F R (h .regular) (h .short) (h .rest) in
     let j : isGroup (kindOf n) ≡ true = rw i at g in
@@ -91,7 +92,8 @@ module _ (s : List ℕ) (q e : ℕ) where
   pub name-room : Row s q e → q < e → q + 4 ≤ length s
   name-room r l = omega (arith, row-room s q e r l)
 
-  pub type-room : (n : ℕ) (k : Kind) (b : Bool) → Row s q e → q < e → n ≡ word s q → k ≡ kindOf n → b ≡ isGroup k → b ≡ true → q + 8 + 4 ≤ length s
+  pub type-room : (n : ℕ) (k : Kind) (b : Bool) → Row s q e → q < e → n ≡ word s q → k ≡ kindOf n → b ≡ isGroup k → b ≡ true →
+      q + 8 + 4 ≤ length s
   type-room n k b r l i j y t = omega (arith, group-room s q e r l (group-known s q n i k j b y t))
 
   pub group-name-room : GroupAt s q e → q + 4 ≤ length s
@@ -117,7 +119,8 @@ row-ends s q e (F, R, h) = h .inside
 
 -- whether the chunk at q is a group whose name and type pass a test
 module _ (s : List ℕ) (q e : ℕ) (test : ℕ → ℕ → Bool) (l : q < e) where
-  is-group-of : (n t : ℕ) (r : Bool) → isGroup (kindOf (word s q)) ≡ true → n ≡ word s q → t ≡ word s (q + 8) → r ≡ test n t → IsGroup s q e test r
+  is-group-of : (n t : ℕ) (r : Bool) → isGroup (kindOf (word s q)) ≡ true → n ≡ word s q → t ≡ word s (q + 8) → r ≡ test n t →
+      IsGroup s q e test r
   is-group-of n t r g i j y = record { at = go }
     where
       go : (F : Chunks) (R : List ℕ) → Holds s q e F R → r ≡ groupIs test F
@@ -134,7 +137,8 @@ module _ (s : List ℕ) (q e : ℕ) (test : ℕ → ℕ → Bool) (l : q < e) wh
       go (group m u G F) R h = never (sym (h .regular .0) ∙ (rw (name-here s q e m u G F R h) at g))
 
 pub group-tested :
-    (s : List ℕ) (q e n t : ℕ) (test : ℕ → ℕ → Bool) (k : Kind) (b r : Bool) → q < e → n ≡ word s q → k ≡ kindOf n → b ≡ isGroup k → b ≡ true →
+    (s : List ℕ) (q e n t : ℕ) (test : ℕ → ℕ → Bool) (k : Kind) (b r : Bool) → q < e → n ≡ word s q → k ≡ kindOf n → b ≡ isGroup k →
+    b ≡ true →
     t ≡ word s (q + 8) → r ≡ test n t → IsGroup s q e test r
 group-tested s q e n t test k b r l i j y g x z = is-group-of s q e test l n t r (group-known s q n i k j b y g) i x z
 
@@ -144,11 +148,13 @@ pub leaf-tested :
 leaf-tested s q e n test k b l i j y g = is-no-group s q e test l (leaf-known s q n i k j b y g)
 
 -- of a group that is known to be one
-pub group-is : (s : List ℕ) (q e n t : ℕ) (test : ℕ → ℕ → Bool) (r : Bool) → GroupAt s q e → n ≡ word s q → t ≡ word s (q + 8) → r ≡ test n t → IsGroup s q e test r
+pub group-is : (s : List ℕ) (q e n t : ℕ) (test : ℕ → ℕ → Bool) (r : Bool) → GroupAt s q e → n ≡ word s q → t ≡ word s (q + 8) →
+    r ≡ test n t → IsGroup s q e test r
 group-is s q e n t test r a i j y = is-group-of s q e test (a .1) n t r (a .2) i j y
 
 -- a chunk that passes a test is a group
-pub tested-group : (s : List ℕ) (q e : ℕ) (test : ℕ → ℕ → Bool) (b : Bool) → Row s q e → q < e → IsGroup s q e test b → b ≡ true → GroupAt s q e
+pub tested-group : (s : List ℕ) (q e : ℕ) (test : ℕ → ℕ → Bool) (b : Bool) → Row s q e → q < e → IsGroup s q e test b → b ≡ true →
+    GroupAt s q e
 tested-group s q e test b (F, R, h) l g i = go F R h (g .at F R h)
   where
     go : (F : Chunks) (R : List ℕ) → Holds s q e F R → b ≡ groupIs test F → GroupAt s q e
@@ -159,4 +165,15 @@ tested-group s q e test b (F, R, h) l g i = go F R h (g .at F R h)
 pub positive : (q : ℕ) → 0 < q + 12
 positive q = omega arith
 
-pub ruleset group-laws = (name-room, type-room, group-name-room, group-type-room, group-size-room, inner-fits, inner-less, inner-row, group-at, positive)
+pub ruleset group-laws = (
+  name-room,
+  type-room,
+  group-name-room,
+  group-type-room,
+  group-size-room,
+  inner-fits,
+  inner-less,
+  inner-row,
+  group-at,
+  positive,
+)

@@ -43,7 +43,8 @@ scopeOf q g =
       camg = record { prop = q; place = g .camg };
     }
 
-pub prop-gives : (s : List ℕ) (q z : ℕ) (g : Gathered) → z ≡ word s (q + 4) → Gathers s (q + 12) (q + 8 + z) true g → PropGives s q (scopeOf q g)
+pub prop-gives : (s : List ℕ) (q z : ℕ) (g : Gathered) → z ≡ word s (q + 4) → Gathers s (q + 12) (q + 8 + z) true g →
+    PropGives s q (scopeOf q g)
 prop-gives s q z g i w = record { at = go }
   where
     go : (G : Chunks) (R : List ℕ) → Holds s (q + 12) (q + 8 + word s (q + 4)) G R → ScopeIs s (scopeOf q g) (propScope q G)
@@ -60,7 +61,8 @@ prop-gives s q z g i w = record { at = go }
 
 -- the chunks still to come give the scope that is looked for
 pub record Sharing (s : List ℕ) (p e q : ℕ) : Type 0 where
-  pub at : (F : Chunks) (R : List ℕ) → Holds s p e F R → (K : Chunks) × Holds s q e K R × ((scope : Shares) → listScope q K scope ≡ listScope p F scope)
+  pub at : (F : Chunks) (R : List ℕ) → Holds s p e F R → (K : Chunks) × Holds s q e K R ×
+      ((scope : Shares) → listScope q K scope ≡ listScope p F scope)
 
 module _ (s : List ℕ) (p e : ℕ) where
   pub sharing-start : Sharing s p e p
@@ -69,7 +71,10 @@ module _ (s : List ℕ) (p e : ℕ) where
   module _ (q : ℕ) (b : Bool) (g : IsGroup s q e isSharedProp b) (w : Sharing s p e q) where
     pub sharing-more : (m : Sibling) → b ≡ false → Tells s q e m → Sharing s p e (m .next)
     unfolding listScope
-    sharing-more m i t = record { at = λ F R h. let x = w .at F R h in go F R (x .0) (x .1) (x .2) (t .front (x .0) R (x .1)) (g .at (x .0) R (x .1)) }
+    sharing-more m i t = record {
+      at = λ F R h. let x = w .at F R h in
+          go F R (x .0) (x .1) (x .2) (t .front (x .0) R (x .1)) (g .at (x .0) R (x .1));
+    }
       where
         go :
             (F : Chunks) (R : List ℕ) (K : Chunks) → Holds s q e K R → ((scope : Shares) → listScope q K scope ≡ listScope p F scope) →
@@ -84,7 +89,10 @@ module _ (s : List ℕ) (p e : ℕ) where
 
     pub sharing-hit : (c r : Scope) → b ≡ true → PropGives s q r → ListGives s p e c r
     unfolding listScope
-    sharing-hit c r i a = record { at = λ F R scope h k. let x = w .at F R h in go F R scope (x .0) (x .1) (x .2 scope) (g .at (x .0) R (x .1)) }
+    sharing-hit c r i a = record {
+      at = λ F R scope h k. let x = w .at F R h in
+          go F R scope (x .0) (x .1) (x .2 scope) (g .at (x .0) R (x .1));
+    }
       where
         go :
             (F : Chunks) (R : List ℕ) (scope : Shares) (K : Chunks) → Holds s q e K R → listScope q K scope ≡ listScope p F scope →
@@ -101,7 +109,8 @@ module _ (s : List ℕ) (p e : ℕ) where
   sharing-end q c l w = record { at = λ F R scope h k. let x = w .at F R h in go F R scope k (x .0) (x .1) (x .2 scope) }
     where
       go :
-          (F : Chunks) (R : List ℕ) (scope : Shares) → ScopeIs s c scope → (K : Chunks) → Holds s q e K R → listScope q K scope ≡ listScope p F scope →
+          (F : Chunks) (R : List ℕ) (scope : Shares) → ScopeIs s c scope → (K : Chunks) → Holds s q e K R →
+          listScope q K scope ≡ listScope p F scope →
           ScopeIs s c (listScope p F scope)
       go F R scope k none h u = rw (← u) k
       go F R scope k (leaf n d pd K) h u = absurd (omega (arith, length-leaf n d pd K, h .ends))
@@ -112,7 +121,8 @@ module _ (s : List ℕ) (q e : ℕ) (c : Scope) (n : ℕ) (i : n ≡ word s q) w
   pub scope-list : (z : ℕ) (r : Scope) → n ≡ LIST → z ≡ word s (q + 4) → ListGives s (q + 12) (q + 8 + z) c r → GivesInside s q e c r
   scope-list z r j y x = record { at = go }
     where
-      go : (m t : ℕ) (G F : Chunks) (R : List ℕ) (scope : Shares) → Holds s q e (group m t G F) R → ScopeIs s c scope → ScopeIs s r (scopeInside m q G scope)
+      go : (m t : ℕ) (G F : Chunks) (R : List ℕ) (scope : Shares) → Holds s q e (group m t G F) R → ScopeIs s c scope →
+          ScopeIs s r (scopeInside m q G scope)
       go m t G F R scope h k =
           let a : m ≡ LIST = sym (name-here s q e m t G F R h) ∙ (sym i ∙ j) in
           rw (eq-eqb _ _ a) (x .at G (bytes F ++ R) scope (rw y (inner-holds s q e m t G F R h)) k)
@@ -120,7 +130,8 @@ module _ (s : List ℕ) (q e : ℕ) (c : Scope) (n : ℕ) (i : n ≡ word s q) w
   pub scope-same : (n ≡ LIST → ⊥) → GivesInside s q e c c
   scope-same j = record { at = go }
     where
-      go : (m t : ℕ) (G F : Chunks) (R : List ℕ) (scope : Shares) → Holds s q e (group m t G F) R → ScopeIs s c scope → ScopeIs s c (scopeInside m q G scope)
+      go : (m t : ℕ) (G F : Chunks) (R : List ℕ) (scope : Shares) → Holds s q e (group m t G F) R → ScopeIs s c scope →
+          ScopeIs s c (scopeInside m q G scope)
       go m t G F R scope h k = rw (ne-eqb m LIST (λ a. j (i ∙ (name-here s q e m t G F R h ∙ a)))) k
 
 pub ruleset sharing-laws = (sharing-start, sharing-more, sharing-hit, tested-group, row-next, more-room, more-less, row-le)

@@ -24,7 +24,8 @@ use Rattle.ilbm_locate.proofs.Laws.{never, empty, inner-holds, opens-he
 use Rattle.ilbm_members.proofs.Laws.{row-next, row-le, more-room, more-less, leaf-steps, group-steps}
 
 -- what is dropped stays in front of what follows
-drop-before : (k : ℕ) (cs ds : List Content) (x : Content) (rest : List Content) → drop k cs ≡ x ∷ rest → drop k (cs ++ ds) ≡ x ∷ (rest ++ ds)
+drop-before : (k : ℕ) (cs ds : List Content) (x : Content) (rest : List Content) → drop k cs ≡ x ∷ rest →
+    drop k (cs ++ ds) ≡ x ∷ (rest ++ ds)
 drop-before zero [] ds x rest e = absurd (let z : _≡_ {A = ℕ} 0 1 = cc in omega arith)
 drop-before zero (c ∷ cs) ds x rest e = ap (λ (l : List Content). l ++ ds) e
 drop-before (suc k) [] ds x rest e = absurd (let z : _≡_ {A = ℕ} 0 1 = cc in omega arith)
@@ -39,7 +40,8 @@ module _ (s : List ℕ) (q e : ℕ) (prop : Scope) where
   spotted-here : (b : Bool) (k : ℕ) → IsGroup s q e isPicture b → b ≡ true → k ≡ 0 → Visits s q e prop k (Here q prop)
   spotted-here b k g i z = record { at = λ F R scope h c. go F R scope h c (g .at F R h) }
     where
-      go : (F : Chunks) (R : List ℕ) (scope : Shares) → Holds s q e F R → ScopeIs s prop scope → b ≡ groupIs isPicture F → Spotted s k (contentsHere q scope F) (Here q prop)
+      go : (F : Chunks) (R : List ℕ) (scope : Shares) → Holds s q e F R → ScopeIs s prop scope → b ≡ groupIs isPicture F →
+          Spotted s k (contentsHere q scope F) (Here q prop)
       go none R scope h c y = never (sym i ∙ y)
       go (leaf n d pd F) R scope h c y = never (sym i ∙ y)
       go (group n t G F) R scope h c y =
@@ -47,21 +49,25 @@ module _ (s : List ℕ) (q e : ℕ) (prop : Scope) where
           (G, scope, contentsFrom (q + 12) (scopeInside n q G scope) G, opens-here s q e n t G F R h, c, rw (v, z))
 
   spotted-later :
-      (b : Bool) (k : ℕ) (r : Spot) → IsGroup s q e isPicture b → b ≡ true → (k ≡ 0 → ⊥) → Enters s q e prop (k - 1) r → Visits s q e prop k r
+      (b : Bool) (k : ℕ) (r : Spot) → IsGroup s q e isPicture b → b ≡ true → (k ≡ 0 → ⊥) → Enters s q e prop (k - 1) r →
+      Visits s q e prop k r
   spotted-later b zero r g i z w = absurd (z refl)
   spotted-later b (suc k) r g i z w = record { at = λ F R scope h c. go F R scope h c (g .at F R h) }
     where
-      go : (F : Chunks) (R : List ℕ) (scope : Shares) → Holds s q e F R → ScopeIs s prop scope → b ≡ groupIs isPicture F → Spotted s (suc k) (contentsHere q scope F) r
+      go : (F : Chunks) (R : List ℕ) (scope : Shares) → Holds s q e F R → ScopeIs s prop scope → b ≡ groupIs isPicture F →
+          Spotted s (suc k) (contentsHere q scope F) r
       go none R scope h c y = never (sym i ∙ y)
       go (leaf n d pd F) R scope h c y = never (sym i ∙ y)
       go (group n t G F) R scope h c y =
           let v : isPicture n t ≡ true = sym y ∙ i in
           rw v (spotted-past s k (contentOf q G scope) (contentsFrom (q + 12) (scopeInside n q G scope) G) r (rw sub-one at (w .at n t G F R scope h c)))
 
-  spotted-inside : (b : Bool) (k : ℕ) (r : Spot) → GroupAt s q e → IsGroup s q e isPicture b → b ≡ false → Enters s q e prop k r → Visits s q e prop k r
+  spotted-inside : (b : Bool) (k : ℕ) (r : Spot) → GroupAt s q e → IsGroup s q e isPicture b → b ≡ false → Enters s q e prop k r →
+      Visits s q e prop k r
   spotted-inside b k r a g i w = record { at = λ F R scope h c. go F R scope h c (g .at F R h) }
     where
-      go : (F : Chunks) (R : List ℕ) (scope : Shares) → Holds s q e F R → ScopeIs s prop scope → b ≡ groupIs isPicture F → Spotted s k (contentsHere q scope F) r
+      go : (F : Chunks) (R : List ℕ) (scope : Shares) → Holds s q e F R → ScopeIs s prop scope → b ≡ groupIs isPicture F →
+          Spotted s k (contentsHere q scope F) r
       go none R scope h c y = absurd (omega (arith, empty, h .ends, a .1))
       go (leaf n d pd F) R scope h c y = absurd (leaf-no-group s q e n d pd F R h (a .2))
       go (group n t G F) R scope h c y = let v : isPicture n t ≡ false = sym y ∙ i in rw v (w .at n t G F R scope h c)
@@ -80,7 +86,8 @@ module _ (s : List ℕ) (q e : ℕ) (prop : Scope) where
   pub leaf-visited : (k : ℕ) → isGroup (kindOf (word s q)) ≡ false → Visits s q e prop k (Left k)
   leaf-visited k g = record { at = go }
     where
-      go : (F : Chunks) (R : List ℕ) (scope : Shares) → Holds s q e F R → ScopeIs s prop scope → Spotted s k (contentsHere q scope F) (Left k)
+      go : (F : Chunks) (R : List ℕ) (scope : Shares) → Holds s q e F R → ScopeIs s prop scope →
+          Spotted s k (contentsHere q scope F) (Left k)
       go none R scope h c Y = refl
       go (leaf n d pd F) R scope h c Y = refl
       go (group n t G F) R scope h c Y = never (sym (h .regular .0) ∙ (rw (name-here s q e n t G F R h) at g))
@@ -93,7 +100,8 @@ module _ (s : List ℕ) (q e : ℕ) (prop : Scope) where
         go :
             (n t : ℕ) (G F : Chunks) (R : List ℕ) (scope : Shares) → Holds s q e (group n t G F) R → ScopeIs s prop scope →
             Spotted s k (contentsFrom (q + 12) (scopeInside n q G scope) G) r
-        go n t G F R scope h c = w .at G (bytes F ++ R) (scopeInside n q G scope) (rw i (inner-holds s q e n t G F R h)) (x .at n t G F R scope h c)
+        go n t G F R scope h c =
+            w .at G (bytes F ++ R) (scopeInside n q G scope) (rw i (inner-holds s q e n t G F R h)) (x .at n t G F R scope h c)
 
     pub entered-scope : GroupAt s q e → Scoped s prop → Scoped s scope'
     entered-scope ((none, R, h), l, g) (scope, c) = absurd (omega (arith, empty, h .ends))
@@ -131,11 +139,13 @@ module _ (s : List ℕ) (q e : ℕ) (m : Sibling) (t : Tells s q e m) where
       where
         go :
             (F : Chunks) (R : List ℕ) (scope : Shares) → Holds s p e F R → ScopeIs s prop scope →
-            (K : Chunks) × Holds s (m .next) e K R × ((Y : List Content) → drop k (contentsFrom p scope F ++ Y) ≡ drop a (contentsFrom (m .next) scope K ++ Y))
+            (K : Chunks) × Holds s (m .next) e K R × ((Y : List Content) →
+            drop k (contentsFrom p scope F ++ Y) ≡ drop a (contentsFrom (m .next) scope K ++ Y))
         go F R scope h c =
             let x = w .at F R scope h c in
             let z = split-at scope (x .0) R (x .1) in
-            let u : (Y : List Content) → drop left (contentsHere q scope (x .0) ++ Y) ≡ drop a Y = rw i at (y .at (x .0) R scope (x .1) c) in
+            let u : (Y : List Content) → drop left (contentsHere q scope (x .0) ++ Y) ≡ drop a Y =
+            rw i at (y .at (x .0) R scope (x .1) c) in
             (z .0, z .1, λ Y. x .2 Y ∙ (rw (z .2, append-assoc) (u (contentsFrom (m .next) scope (z .0) ++ Y))))
 
 -- what follows the first chunk matters no more once the picture is found
@@ -150,7 +160,8 @@ module _ (s : List ℕ) (p e : ℕ) (prop : Scope) (k q left : ℕ) (v : Spot) (
   pub passing-here : (f : ℕ) (g : Scope) → v ≡ Here f g → Seeks s p e prop k (Here f g)
   passing-here f g i = record { at = go }
     where
-      go : (F : Chunks) (R : List ℕ) (scope : Shares) → Holds s p e F R → ScopeIs s prop scope → Spotted s k (contentsFrom p scope F) (Here f g)
+      go : (F : Chunks) (R : List ℕ) (scope : Shares) → Holds s p e F R → ScopeIs s prop scope →
+          Spotted s k (contentsFrom p scope F) (Here f g)
       go F R scope h c =
           let x = w .at F R scope h c in
           let z = split-any q scope (x .0) in
@@ -176,7 +187,8 @@ module _ (s : List ℕ) (p e : ℕ) (prop : Scope) (k : ℕ) where
       go F scope (group n x G K) R h u = absurd (omega (arith, length-group n x G K, h .ends))
 
 pub leaf-passed :
-    (s : List ℕ) (q e : ℕ) (prop : Scope) (k n : ℕ) (i : Kind) (b : Bool) → n ≡ word s q → i ≡ kindOf n → b ≡ isGroup i → b ≡ false → Visits s q e prop k (Left k)
+    (s : List ℕ) (q e : ℕ) (prop : Scope) (k n : ℕ) (i : Kind) (b : Bool) → n ≡ word s q → i ≡ kindOf n → b ≡ isGroup i → b ≡ false →
+    Visits s q e prop k (Left k)
 leaf-passed s q e prop k n i b x y z g = leaf-visited s q e prop k (leaf-known s q n x i y b z g)
 
 pub visit-less : (p e q : ℕ) → p ≤ q → q < e → (e - q) * 4 + 2 < (e - p) * 4 + 3

@@ -31,7 +31,8 @@ toCome whole b name q o K = pick (stillOpen whole b) (lastNamed (endsAt whole) n
 pub record Looking (s : List ℕ) (p e : ℕ) (whole : Bool) (q b name x : ℕ) : Type 0 where
   pub at :
       (F : Chunks) (R : List ℕ) → Holds s p e F R →
-      (K : Chunks) × Holds s q e K R × ((o : Option Located) × Marks s x o × (lastNamed (endsAt whole) name p nothing F ≡ toCome whole b name q o K))
+      (K : Chunks) × Holds s q e K R × ((o : Option Located) × Marks s x o ×
+      (lastNamed (endsAt whole) name p nothing F ≡ toCome whole b name q o K))
 
 pub looking-start : (s : List ℕ) (p e : ℕ) (whole : Bool) (name : ℕ) → Looking s p e whole p 0 name 0
 looking-start s p e true name = record { at = λ F R h. (F, h, (nothing, refl, refl)) }
@@ -66,8 +67,10 @@ module _ (s : List ℕ) (q x n name next : ℕ) (d : List ℕ) (o : Option Locat
   leaf-turn b false k l w m e = rw (open-after b (eqb n BODY)) (go (eqb b 0) (eqb n BODY) refl e)
     where
       go :
-          (c hit : Bool) → eqb n BODY ≡ hit → v ≡ pick c (pick hit o (lastNamed (endsAt false) name next (pick (eqb n name) (some (located q d)) o) K)) o →
-          (u : Option Located) × Marks s (pick (both c (eqb n name)) q x) u × (v ≡ pick (both c (not hit)) (lastNamed (endsAt false) name next u K) u)
+          (c hit : Bool) → eqb n BODY ≡ hit →
+          v ≡ pick c (pick hit o (lastNamed (endsAt false) name next (pick (eqb n name) (some (located q d)) o) K)) o →
+          (u : Option Located) × Marks s (pick (both c (eqb n name)) q x) u ×
+          (v ≡ pick (both c (not hit)) (lastNamed (endsAt false) name next u K) u)
       go true true i e = let z : n ≡ BODY = eqb-true n BODY i in (o, rw (z, k) m, e)
       go true false i e = (pick (eqb n name) (some (located q d)) o, marks-pick s (eqb n name) q x d o l w m, e)
       go false hit i e = (o, m, e)
@@ -88,27 +91,37 @@ group-turn s q x n name next o K v b whole i j m e = (o, rw i (kept (stillOpen w
 
 module _ (s : List ℕ) (p e : ℕ) (whole : Bool) (q : ℕ) (m : Sibling) (t : Tells s q e m) (l : 0 < q) where
   pub looking-more :
-      (name : ℕ) → isGroup (kindOf name) ≡ false → isGroup (kindOf BODY) ≡ false → eqb BODY name ≡ false → (b x : ℕ) → Looking s p e whole q b name x →
+      (name : ℕ) → isGroup (kindOf name) ≡ false → isGroup (kindOf BODY) ≡ false → eqb BODY name ≡ false → (b x : ℕ) →
+      Looking s p e whole q b name x →
       Looking s p e whole (m .next) (b + pick (eqb (m .name .code) BODY) 1 0) name (newerOf (m .name .code) q b whole name x)
   unfolding lastNamed
-  looking-more name k kb nb b x w = record { at = λ F R h. let y = w .at F R h in go F R (y .0) (y .1) (y .2 .0) (y .2 .1) (y .2 .2) (t .front (y .0) R (y .1)) }
+  looking-more name k kb nb b x w = record {
+    at = λ F R h. let y = w .at F R h in
+        go F R (y .0) (y .1) (y .2 .0) (y .2 .1) (y .2 .2) (t .front (y .0) R (y .1));
+  }
     where
       go :
           (F : Chunks) (R : List ℕ) (K : Chunks) → Holds s q e K R → (o : Option Located) → Marks s x o →
           lastNamed (endsAt whole) name p nothing F ≡ toCome whole b name q o K → Front s q e (m .name .code) (m .next) K R →
-          (K' : Chunks) × Holds s (m .next) e K' R × ((u : Option Located) × Marks s (newerOf (m .name .code) q b whole name x) u × (lastNamed (endsAt whole) name p nothing F ≡ toCome whole (b + pick (eqb (m .name .code) BODY) 1 0) name (m .next) u K'))
+          (K' : Chunks) × Holds s (m .next) e K' R × ((u : Option Located) × Marks s (newerOf (m .name .code) q b whole name x) u ×
+          (lastNamed (endsAt whole) name p nothing F ≡ toCome whole (b + pick (eqb (m .name .code) BODY) 1 0) name (m .next) u K'))
       go F R none h o a u f = absurd f
       go F R (leaf n d pd K) h o a u f =
           (K, f .2, rw (f .0) (leaf-turn s q x n name (m .next) d o K _ b whole nb l (f .1) a (rw (leaf-steps s q e _ _ n d pd K R h f) at u)))
       go F R (group n y G K) h o a u f =
           (K, f .1, rw (f .0) (group-turn s q x n name (m .next) o K _ b whole (no-group n name (h .regular .0) k) (no-group n BODY (h .regular .0) kb) a (rw (group-steps s q e _ _ n y G K R h f) at u)))
 
-pub looking-end : (s : List ℕ) (p e : ℕ) (whole : Bool) (q b name x : ℕ) → e ≤ q → Looking s p e whole q b name x → LastIs s p e whole name x
+pub looking-end : (s : List ℕ) (p e : ℕ) (whole : Bool) (q b name x : ℕ) → e ≤ q → Looking s p e whole q b name x →
+    LastIs s p e whole name x
 unfolding lastNamed
-looking-end s p e whole q b name x l w = record { at = λ F R h. let y = w .at F R h in go F (y .0) (all-read s q e (y .0) R l (y .1)) (y .2 .0) (y .2 .1) (y .2 .2) (stillOpen whole b) refl }
+looking-end s p e whole q b name x l w = record {
+  at = λ F R h. let y = w .at F R h in
+      go F (y .0) (all-read s q e (y .0) R l (y .1)) (y .2 .0) (y .2 .1) (y .2 .2) (stillOpen whole b) refl;
+}
   where
     go :
-        (F K : Chunks) → K ≡ none → (o : Option Located) → Marks s x o → lastNamed (endsAt whole) name p nothing F ≡ toCome whole b name q o K →
+        (F K : Chunks) → K ≡ none → (o : Option Located) → Marks s x o →
+        lastNamed (endsAt whole) name p nothing F ≡ toCome whole b name q o K →
         (c : Bool) → stillOpen whole b ≡ c → Marks s x (lastNamed (endsAt whole) name p nothing F)
     go F K z o a u true i = let v : lastNamed (endsAt whole) name p nothing F ≡ o = rw (z, i) at u in rw v a
     go F K z o a u false i = let v : lastNamed (endsAt whole) name p nothing F ≡ o = rw (z, i) at u in rw v a
@@ -117,14 +130,16 @@ looking-end s p e whole q b name x l w = record { at = λ F R h. let y = w .at F
 pub record Counting (s : List ℕ) (p e q b first : ℕ) : Type 0 where
   pub at :
       (F : Chunks) (R : List ℕ) → Holds s p e F R →
-      (K : Chunks) × Holds s q e K R × ((met : List Located) × (length met ≡ b) × Marks s first (firstOf met) × (bodiesFrom p F ≡ met ++ bodiesFrom q K))
+      (K : Chunks) × Holds s q e K R × ((met : List Located) × (length met ≡ b) × Marks s first (firstOf met) ×
+      (bodiesFrom p F ≡ met ++ bodiesFrom q K))
 
 pub counting-start : (s : List ℕ) (p e : ℕ) → Counting s p e p 0 0
 counting-start s p e = record { at = λ F R h. (F, h, ([], refl, refl, refl)) }
 
 -- one more BODY: it is the first if there was none
 one-more :
-    (s : List ℕ) (q first : ℕ) (d : List ℕ) (met : List Located) (b : ℕ) → length met ≡ b → 0 < q → Stands s (located q d) → Marks s first (firstOf met) →
+    (s : List ℕ) (q first : ℕ) (d : List ℕ) (met : List Located) (b : ℕ) → length met ≡ b → 0 < q → Stands s (located q d) →
+    Marks s first (firstOf met) →
     Marks s (pick (both (eqb b 0) true) q first) (firstOf (met ++ (located q d ∷ [])))
 one-more s q first d [] b i l w m = rw (← i) (refl, l, w)
 one-more s q first d (y ∷ met) b i l w m = let z : suc (length met) ≡ b = i in rw (ne-eqb b 0 (λ e. omega arith)) m
@@ -134,26 +149,41 @@ module _ (s : List ℕ) (p e q : ℕ) (m : Sibling) (t : Tells s q e m) (l : 0 <
       isGroup (kindOf BODY) ≡ false → (b first : ℕ) → Counting s p e q b first →
       Counting s p e (m .next) (b + pick (eqb (m .name .code) BODY) 1 0) (pick (both (eqb b 0) (eqb (m .name .code) BODY)) q first)
   unfolding bodiesFrom
-  counting-more kb b first w = record { at = λ F R h. let y = w .at F R h in go F R (y .0) (y .1) (y .2 .0) (y .2 .1) (y .2 .2) (y .2 .3) (t .front (y .0) R (y .1)) }
+  counting-more kb b first w = record {
+    at = λ F R h. let y = w .at F R h in
+        go F R (y .0) (y .1) (y .2 .0) (y .2 .1) (y .2 .2) (y .2 .3) (t .front (y .0) R (y .1));
+  }
     where
       Next : Chunks → List ℕ → ℕ → Type 0
       Next F R n =
-          (K' : Chunks) × Holds s (m .next) e K' R × ((met : List Located) × (length met ≡ b + pick (eqb n BODY) 1 0) × Marks s (pick (both (eqb b 0) (eqb n BODY)) q first) (firstOf met) × (bodiesFrom p F ≡ met ++ bodiesFrom (m .next) K'))
+          (K' : Chunks) × Holds s (m .next) e K' R × ((met : List Located) × (length met ≡ b + pick (eqb n BODY) 1 0) ×
+          Marks s (pick (both (eqb b 0) (eqb n BODY)) q first) (firstOf met) × (bodiesFrom p F ≡ met ++ bodiesFrom (m .next) K'))
 
       stays : (c : Bool) (met : List Located) → Marks s first (firstOf met) → Marks s (pick (both c false) q first) (firstOf met)
       stays true met a = a
       stays false met a = a
 
       other :
-          (F : Chunks) (R : List ℕ) (K : Chunks) (n : ℕ) (met : List Located) → eqb n BODY ≡ false → Holds s (m .next) e K R → length met ≡ b →
+          (F : Chunks) (R : List ℕ) (K : Chunks) (n : ℕ) (met : List Located) → eqb n BODY ≡ false → Holds s (m .next) e K R →
+          length met ≡ b →
           Marks s first (firstOf met) → bodiesFrom p F ≡ met ++ bodiesFrom (m .next) K → Next F R n
       other F R K n met i h c a u = (K, h, (met, rw i (omega (arith, c)), rw i (stays (eqb b 0) met a), u))
 
       at-leaf :
-          (F : Chunks) (R : List ℕ) (K : Chunks) (n : ℕ) (d : List ℕ) (met : List Located) (hit : Bool) → eqb n BODY ≡ hit → Holds s (m .next) e K R → length met ≡ b →
-          Stands s (located q d) → Marks s first (firstOf met) → bodiesFrom p F ≡ met ++ (pick hit (located q d ∷ []) [] ++ bodiesFrom (m .next) K) → Next F R n
-      at-leaf F R K n d met true i h c x a u =
-          (K, h, (met ++ (located q d ∷ []), rw (i, length-append) (omega (arith, c)), rw i (one-more s q first d met b c l x a), rw append-assoc u))
+          (F : Chunks) (R : List ℕ) (K : Chunks) (n : ℕ) (d : List ℕ) (met : List Located) (hit : Bool) → eqb n BODY ≡ hit →
+          Holds s (m .next) e K R → length met ≡ b →
+          Stands s (located q d) → Marks s first (firstOf met) →
+          bodiesFrom p F ≡ met ++ (pick hit (located q d ∷ []) [] ++ bodiesFrom (m .next) K) → Next F R n
+      at-leaf F R K n d met true i h c x a u = (
+        K,
+        h,
+        (
+          met ++ (located q d ∷ []),
+          rw (i, length-append) (omega (arith, c)),
+          rw i (one-more s q first d met b c l x a),
+          rw append-assoc u,
+        ),
+      )
       at-leaf F R K n d met false i h c x a u = other F R K n met i h c a u
 
       go :
@@ -167,9 +197,13 @@ module _ (s : List ℕ) (p e q : ℕ) (m : Sibling) (t : Tells s q e m) (l : 0 <
 
 pub counting-end : (s : List ℕ) (p e q b first : ℕ) → e ≤ q → Counting s p e q b first → BodiesAre s p e b first
 unfolding bodiesFrom
-counting-end s p e q b first l w = record { at = λ F R h. let y = w .at F R h in go F (y .0) (all-read s q e (y .0) R l (y .1)) (y .2 .0) (y .2 .1) (y .2 .2) (y .2 .3) }
+counting-end s p e q b first l w = record {
+  at = λ F R h. let y = w .at F R h in
+      go F (y .0) (all-read s q e (y .0) R l (y .1)) (y .2 .0) (y .2 .1) (y .2 .2) (y .2 .3);
+}
   where
     go :
-        (F K : Chunks) → K ≡ none → (met : List Located) → length met ≡ b → Marks s first (firstOf met) → bodiesFrom p F ≡ met ++ bodiesFrom q K →
+        (F K : Chunks) → K ≡ none → (met : List Located) → length met ≡ b → Marks s first (firstOf met) →
+        bodiesFrom p F ≡ met ++ bodiesFrom q K →
         (b ≡ length (bodiesFrom p F)) × Marks s first (firstOf (bodiesFrom p F))
     go F K z met c a u = let v : bodiesFrom p F ≡ met = rw (z, append-nil) at u in rw v (sym c, a)

@@ -10,7 +10,8 @@ use native.Mathlib.Omega.{arith}
 use Rattle.iff_name.specs.Name.{kindOf}
 use Rattle.iff_chunk.specs.Chunks.{Chunks, none, leaf, group, bytes, word, nextAt}
 use Rattle.iff_rules.specs.Rules.{isGroup}
-use Rattle.iff_grammar.specs.laws.Read.{leaf-fits, leaf-name, leaf-size, leaf-data, leaf-next, leaf-rest, group-name, group-next, group-rest}
+use Rattle.iff_grammar.specs.laws.Read.{leaf-fits, leaf-name, leaf-size, leaf-data, leaf-next, leaf-rest, group-name, group-next}
+use Rattle.iff_grammar.specs.laws.Read.{group-rest}
 use Rattle.iff_grammar.specs.laws.Read.{length-leaf, length-group}
 use Rattle.ilbm_members.specs.declared.Sibling.{Sibling}
 use Rattle.ilbm_members.specs.Members.{Holds, Row, Front, Tells}
@@ -44,14 +45,32 @@ module _ (s : List ℕ) (p e n z : ℕ) (a : n ≡ word s p) (b : z ≡ word s (
           inside = omega (arith, h .ends, h .inside);
           short = h .short;
         },
-        rw next-is (record { rest = leaf-rest s p m d pd F R x (h .short) (h .rest); regular = x .3; ends = omega (arith, h .ends); inside = h .inside; short = h .short }),
+        rw next-is (record {
+          rest = leaf-rest s p m d pd F R x (h .short) (h .rest);
+          regular = x .3;
+          ends = omega (
+            arith,
+            h .ends,
+          );
+          inside = h .inside;
+          short = h .short;
+        }),
       )
   front-read (group m t G F) R h =
       let x = h .regular in
       let w = group-next s p m t G F R x (h .short) (h .rest) in
       let v = length-group m t G F in (
         a ∙ group-name s p m t G F R x (h .short) (h .rest),
-        rw next-is (record { rest = group-rest s p m t G F R x (h .short) (h .rest); regular = x .4; ends = omega (arith, h .ends); inside = h .inside; short = h .short }),
+        rw next-is (record {
+          rest = group-rest s p m t G F R x (h .short) (h .rest);
+          regular = x .4;
+          ends = omega (
+            arith,
+            h .ends,
+          );
+          inside = h .inside;
+          short = h .short;
+        }),
       )
 
   next-inside : (F : Chunks) (R : List ℕ) → Front s p e n (p + 8 + (z + 1) / 2 * 2) F R → p + 8 + (z + 1) / 2 * 2 ≤ e

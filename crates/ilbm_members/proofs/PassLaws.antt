@@ -11,7 +11,8 @@ use Rattle.ilbm_members.specs.declared.Sibling.{Sibling}
 use Rattle.ilbm_members.specs.declared.Gathered.{Gathered}
 use Rattle.ilbm_members.specs.Members.{Row, Tells}
 use Rattle.ilbm_members.specs.Gathers.{Each, Gathers, noneYet, takenWith}
-use Rattle.ilbm_members.proofs.GatherLaws.{Looking, looking-start, looking-more, looking-end, Counting, counting-start, counting-more, counting-end}
+use Rattle.ilbm_members.proofs.GatherLaws.{Looking, looking-start, looking-more, looking-end, Counting, counting-start}
+use Rattle.ilbm_members.proofs.GatherLaws.{counting-more, counting-end}
 
 pub record Gathering (s : List ℕ) (p e : ℕ) (whole : Bool) (q : ℕ) (g : Gathered) : Type 0 where
   pub last : Each (λ name x. Looking s p e whole q (g .bodies) name x) g
@@ -33,7 +34,8 @@ module _ (s : List ℕ) (p e : ℕ) (whole : Bool) where
   one-most false = omega arith
 
   pub gathering-more :
-      (q : ℕ) (m : Sibling) (g h : Gathered) → Tells s q e m → h ≡ takenWith (m .name .code) q g whole → 0 < p → p ≤ q → Gathering s p e whole q g →
+      (q : ℕ) (m : Sibling) (g h : Gathered) → Tells s q e m → h ≡ takenWith (m .name .code) q g whole → 0 < p → p ≤ q →
+      Gathering s p e whole q g →
       Gathering s p e whole (m .next) h
   unfolding kindOf
   gathering-more q m g h t i a b w =

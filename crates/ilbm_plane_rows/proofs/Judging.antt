@@ -70,7 +70,8 @@ module _ (compression : ℕ) (body : List ℕ) (n rows at : ℕ) where
               (w : Row) → answerOf w ≡ Full p →
               lineAnswer (thenRead (rowRead w) (λ bs p. onward bs (rowsFrom compression body n (rows - (k + 1)) p))) ≡ lineAnswer (rowsFrom compression body n rows at) →
               lineAnswer (rowsFrom compression body n (rows - (k + 1)) p) ≡ lineAnswer (rowsFrom compression body n rows at)
-          go (filled bs s) d f = let z : s ≡ p = cc in rw z at (sym (answered-onward bs (rowsFrom compression body n (rows - (k + 1)) s)) ∙ f)
+          go (filled bs s) d f = let z : s ≡ p = cc in
+              rw z at (sym (answered-onward bs (rowsFrom compression body n (rows - (k + 1)) s)) ∙ f)
           go (over s) d f = let z : _≡_ {A = ℕ} 0 1 = cc in absurd (omega arith)
           go (short s) d f = let z : _≡_ {A = ℕ} 0 1 = cc in absurd (omega arith)
 

@@ -41,7 +41,8 @@ rows-first : (n m p k : ℕ) (buffer : List ℕ) → p ≤ m → take p (rowsIn 
 unfolding rowsIn
 rows-first n m zero k buffer h = refl
 rows-first n zero (suc p) k buffer h = absurd (omega arith)
-rows-first n (suc m) (suc p) k buffer h = ap (λ (l : List (List ℕ)). take n (drop (k * n) buffer) ∷ l) (rows-first n m p (suc k) buffer (omega arith))
+rows-first n (suc m) (suc p) k buffer h =
+    ap (λ (l : List (List ℕ)). take n (drop (k * n) buffer) ∷ l) (rows-first n m p (suc k) buffer (omega arith))
 
 module _ (compression : ℕ) (body : List ℕ) (w planes rows at n : ℕ) (e : n ≡ rowLength w) where
   pub rows-read : IsRead (rowsFrom compression body (rowLength w) rows at) → IsRead (rowsFrom compression body n rows at)
@@ -63,7 +64,8 @@ module _ (compression : ℕ) (body : List ℕ) (w planes rows at n : ℕ) (e : n
       line-answered : r ≡ lineAnswer (lineBy compression w planes m body at)
       line-answered = rw (← c) (rw e at j ∙ go (rowsFrom compression body (rowLength w) rows at))
         where
-          go : (v : Read (List (List ℕ))) → lineAnswer v ≡ lineAnswer (thenRead v (λ planeRows q. found ((coloursFrom 0 w (take planes planeRows)), q)))
+          go : (v : Read (List (List ℕ))) →
+              lineAnswer v ≡ lineAnswer (thenRead v (λ planeRows q. found ((coloursFrom 0 w (take planes planeRows)), q)))
           go (found (a, p)) = refl
           go (refused k p) = refl
 
@@ -74,7 +76,8 @@ module _ (compression : ℕ) (body : List ℕ) (w planes rows at n : ℕ) (e : n
 
       pub line-refusal :
           (k p : ℕ) → r ≡ Refused k p →
-          (Refused k p ≡ lineAnswer (lineBy compression w planes m body at)) × (old ≡ bytesAfter (lineBy compression w planes m body at) old)
+          (Refused k p ≡ lineAnswer (lineBy compression w planes m body at)) ×
+          (old ≡ bytesAfter (lineBy compression w planes m body at) old)
       line-refusal k p d = answered-refusal (lineBy compression w planes m body at) r line-answered old k p d
 
 pub ruleset lines = (count-room, rows-fit, rows-read, line-written, rows-judged, line-read, line-refusal)

@@ -36,7 +36,8 @@ rows-left n (suc m) k xs ys h =
 rows-last : (n m k : ℕ) (xs : List ℕ) → rowsIn n (suc m) k xs ≡ rowsIn n m k xs ++ (take n (drop ((k + m) * n) xs) ∷ [])
 unfolding rowsIn
 rows-last n zero k xs = let e : k + 0 ≡ k = omega arith in rw e
-rows-last n (suc m) k xs = let e : k + suc m ≡ suc k + m = omega arith in rw e (ap (λ (l : List (List ℕ)). take n (drop (k * n) xs) ∷ l) (rows-last n m (suc k) xs))
+rows-last n (suc m) k xs = let e : k + suc m ≡ suc k + m = omega arith in
+    rw e (ap (λ (l : List (List ℕ)). take n (drop (k * n) xs) ∷ l) (rows-last n m (suc k) xs))
 
 -- the part of a buffer that is lent for a row
 pub part-long : (a n : ℕ) (xs : List ℕ) → a + n ≤ length xs → length (take (a + n - a) (drop a xs)) ≡ n
@@ -50,7 +51,8 @@ rows-more n k old new tail h l =
     let a : length (take (k * n) old) ≡ k * n = length-take-le (k * n) old (omega arith) in
     let z : 0 + k ≡ k = omega arith in
     let b : (0 + k) * n ≤ length (take (k * n) old) = rw z (omega arith) in
-    let f : rowsIn n k 0 (take (k * n) old ++ (new ++ tail)) ≡ rowsIn n k 0 (take (k * n) old) = rows-left n k 0 (take (k * n) old) (new ++ tail) b in
+    let f : rowsIn n k 0 (take (k * n) old ++ (new ++ tail)) ≡ rowsIn n k 0 (take (k * n) old) =
+    rows-left n k 0 (take (k * n) old) (new ++ tail) b in
     let g : rowsIn n k 0 old ≡ rowsIn n k 0 (take (k * n) old) =
     sym (ap (λ (xs : List ℕ). rowsIn n k 0 xs) (take-append-drop (k * n) old)) ∙ rows-left n k 0 (take (k * n) old) (drop (k * n) old) b in
     let i : take n (drop (k * n) (take (k * n) old ++ (new ++ tail))) ≡ new =
@@ -82,7 +84,10 @@ module _ (compression : ℕ) (body : List ℕ) (n rows at : ℕ) where
       written-full m e = rw e (go (rowOf compression body q n) first)
         where
           go :
-              (v : Row) → thenRead (rowRead v) (λ bs p. onward bs (rowsFrom compression body n (rows - (k + 1)) p)) ≡ found ((w .left), (w .end)) → IsFull v
+              (v : Row) → thenRead (rowRead v) (λ bs p. onward bs (rowsFrom compression body n (rows - (k + 1)) p)) ≡ found (
+                (w .left),
+                (w .end),
+              ) → IsFull v
           go (filled bs s) f = tt
           go (over s) f = let z : _≡_ {A = ℕ} 0 1 = cc in absurd (omega arith)
           go (short s) f = let z : _≡_ {A = ℕ} 0 1 = cc in absurd (omega arith)
@@ -105,13 +110,17 @@ module _ (compression : ℕ) (body : List ℕ) (n rows at : ℕ) where
                 left = rest;
                 end = r;
                 to-come = u;
-                whole = rw (rows-more n k buffer new tail d (l ∙ e), append-assoc (rowsIn n k 0 buffer) (new ∷ []) rest) (rw (x, y) at (w .whole));
+                whole = rw (
+                  rows-more n k buffer new tail d (l ∙ e),
+                  append-assoc (rowsIn n k 0 buffer) (new ∷ []) rest,
+                ) (rw (x, y) at (w .whole));
               }
           go (refused f s) u g = let z : _≡_ {A = ℕ} 0 1 = cc in absurd (omega arith)
 
     pub written-end : k ≤ rows → rows ≤ k → rowsFrom compression body n rows at ≡ found ((rowsIn n rows 0 buffer), q)
     written-end a b =
-        let none : _≡_ {A = Read (List (List ℕ))} (found ([], q)) (found (w .left, w .end)) = rw (rows-none compression body n rows k q b) at (w .to-come) in
+        let none : _≡_ {A = Read (List (List ℕ))} (found ([], q)) (found (w .left, w .end)) =
+        rw (rows-none compression body n rows k q b) at (w .to-come) in
         let x : w .left ≡ [] = sym (one-value none) in
         let y : w .end ≡ q = sym (one-place none) in
         let z : rows ≡ k = omega arith in

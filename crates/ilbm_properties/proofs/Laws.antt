@@ -16,7 +16,8 @@ use Rattle.ilbm_spec.specs.declared.Destination.{Destination}
 use Rattle.ilbm_spec.specs.declared.Picture.{Picture}
 use Rattle.ilbm_spec.specs.declared.PictureAnswer.the-variants.{Shown, Refused}
 use Rattle.ilbm_spec.specs.Contents.{Property, own, shared, absent, Content}
-use Rattle.ilbm_spec.specs.Pictures.{u16, headerIn, hotSpotIn, destinationIn, dataOf, originOf, counts, sizeNot, sizeNotTriples, wrongSize, headerRefusal, pictureRefusal, pictureFrom, viewOf, pictureOf}
+use Rattle.ilbm_spec.specs.Pictures.{u16, headerIn, hotSpotIn, destinationIn, dataOf, originOf, counts, sizeNot, sizeNotTriples}
+use Rattle.ilbm_spec.specs.Pictures.{wrongSize, headerRefusal, pictureRefusal, pictureFrom, viewOf, pictureOf}
 use Rattle.ilbm_spec.specs.laws.Pictures.{sizes-right}
 use Rattle.ilbm_content.proofs.Laws.{origin-is}
 use Rattle.ilbm_content.specs.declared.Part.the-variants.{Nothing, Between}
@@ -110,7 +111,8 @@ none-of false false false false false f i = (refl, refl, refl, refl, i)
 
 module _ (s : List ℕ) (c : Contents) (b : BitmapHeader) (j : Judged s c b) where
   all :
-      (sizeNot 20 (j .0 .bmhd) ≡ false) × (sizeNot 4 (j .0 .grab) ≡ false) × (sizeNot 8 (j .0 .dest) ≡ false) × (sizeNot 2 (j .0 .sprt) ≡ false) ×
+      (sizeNot 20 (j .0 .bmhd) ≡ false) × (sizeNot 4 (j .0 .grab) ≡ false) × (sizeNot 8 (j .0 .dest) ≡ false) ×
+      (sizeNot 2 (j .0 .sprt) ≡ false) ×
       (sizeNot 4 (j .0 .camg) ≡ false)
   unfolding wrongSize
   all =

@@ -108,7 +108,16 @@ module _ (s : List ℕ) (c : Contents) (b : Bool) (v : SizeIs (c .bmhd) 20 b) wh
         wrong-dest i4 = record { at = go }
           where
             go : (x : Content) → ContentsAre s c x → true ≡ wrongSize x
-            go x k = rw (← v .at s (x .bmhd) (k .bmhd), i, ← v2 .at s (x .cmap) (k .cmap), i2, ← v3 .at s (x .grab) (k .grab), i3, ← v4 .at s (x .dest) (k .dest), i4)
+            go x k = rw (
+              ← v .at s (x .bmhd) (k .bmhd),
+              i,
+              ← v2 .at s (x .cmap) (k .cmap),
+              i2,
+              ← v3 .at s (x .grab) (k .grab),
+              i3,
+              ← v4 .at s (x .dest) (k .dest),
+              i4,
+            )
 
         module _ (i4 : b4 ≡ false) (b5 : Bool) (v5 : SizeIs (c .sprt) 2 b5) where
           pub wrong-sprt : b5 ≡ true → SizesAre s c true
@@ -116,14 +125,37 @@ module _ (s : List ℕ) (c : Contents) (b : Bool) (v : SizeIs (c .bmhd) 20 b) wh
           wrong-sprt i5 = record { at = go }
             where
               go : (x : Content) → ContentsAre s c x → true ≡ wrongSize x
-              go x k = rw (← v .at s (x .bmhd) (k .bmhd), i, ← v2 .at s (x .cmap) (k .cmap), i2, ← v3 .at s (x .grab) (k .grab), i3, ← v4 .at s (x .dest) (k .dest), i4, ← v5 .at s (x .sprt) (k .sprt), i5)
+              go x k = rw (
+                ← v .at s (x .bmhd) (k .bmhd),
+                i,
+                ← v2 .at s (x .cmap) (k .cmap),
+                i2,
+                ← v3 .at s (x .grab) (k .grab),
+                i3,
+                ← v4 .at s (x .dest) (k .dest),
+                i4,
+                ← v5 .at s (x .sprt) (k .sprt),
+                i5,
+              )
 
           pub wrong-camg : (b6 : Bool) → b5 ≡ false → SizeIs (c .camg) 4 b6 → SizesAre s c b6
           unfolding wrongSize
           wrong-camg b6 i5 v6 = record { at = go }
             where
               go : (x : Content) → ContentsAre s c x → b6 ≡ wrongSize x
-              go x k = rw (← v .at s (x .bmhd) (k .bmhd), i, ← v2 .at s (x .cmap) (k .cmap), i2, ← v3 .at s (x .grab) (k .grab), i3, ← v4 .at s (x .dest) (k .dest), i4, ← v5 .at s (x .sprt) (k .sprt), i5, ← v6 .at s (x .camg) (k .camg))
+              go x k = rw (
+                ← v .at s (x .bmhd) (k .bmhd),
+                i,
+                ← v2 .at s (x .cmap) (k .cmap),
+                i2,
+                ← v3 .at s (x .grab) (k .grab),
+                i3,
+                ← v4 .at s (x .dest) (k .dest),
+                i4,
+                ← v5 .at s (x .sprt) (k .sprt),
+                i5,
+                ← v6 .at s (x .camg) (k .camg),
+              )
 
 -- 24
 module _ (b : BitmapHeader) (body : Bool) where

@@ -24,12 +24,14 @@ use Rattle.ilbm_refusals.specs.declared.Judgement.{Judgement}
 use Rattle.ilbm_refusals.proofs.Laws.{held-some, held-none}
 
 -- the data that a part holds
-pub held-data : (s : List ℕ) (h : Held) (q : Property) (a b : ℕ) → HeldIs s h q → h .part ≡ Between a b → (slice a b s ≡ dataOf q) × (a + length (dataOf q) ≡ b) × (b ≤ length s)
+pub held-data : (s : List ℕ) (h : Held) (q : Property) (a b : ℕ) → HeldIs s h q → h .part ≡ Between a b → (slice a b s ≡ dataOf q) ×
+    (a + length (dataOf q) ≡ b) × (b ≤ length s)
 held-data s h (own x) a b k i = let w : Shows s (Between a b) (some x) = rw i at (k .1) in (w .0, w .1, w .2)
 held-data s h (shared p x) a b k i = let w : Shows s (Between a b) (some x) = rw i at (k .1) in (w .0, w .1, w .2)
 held-data s h absent a b k i = absurd (let j : Nothing ≡ Between a b = sym (k .1) ∙ i in let z : _≡_ {A = ℕ} 0 1 = cc in omega arith)
 
-pub data-taken : (s : List ℕ) (h : Held) (q : Property) (a b : ℕ) → HeldIs s h q → h .part ≡ Between a b → take (b - a) (drop a s) ≡ dataOf q
+pub data-taken : (s : List ℕ) (h : Held) (q : Property) (a b : ℕ) → HeldIs s h q → h .part ≡ Between a b →
+    take (b - a) (drop a s) ≡ dataOf q
 data-taken s h q a b k i =
     let w = held-data s h q a b k i in
     let j : a + (b - a) ≡ b = omega (arith, w .1) in
@@ -37,7 +39,8 @@ data-taken s h q a b k i =
 
 -- a number other than 0, and no header
 refused-as :
-    (s : List ℕ) (c : Contents) (r : Judgement) (n : ℕ) → r .number ≡ n → (n ≡ 0 → ⊥) → ((x : Content) → ContentsAre s c x → n ≡ pictureRefusal x) →
+    (s : List ℕ) (c : Contents) (r : Judgement) (n : ℕ) → r .number ≡ n → (n ≡ 0 → ⊥) →
+    ((x : Content) → ContentsAre s c x → n ≡ pictureRefusal x) →
     JudgementIs s c r
 refused-as s c r n e z w = record { number = λ x k. e ∙ w x k; header = λ x k i. absurd (z (sym e ∙ i)) }
 
@@ -66,7 +69,8 @@ module _ (s : List ℕ) (c : Contents) (a b : ℕ) (i : c .bmhd .part ≡ Betwee
   pub refusal-22 : (r : Judgement) → 1 < c .bodies → r .number ≡ 22 → JudgementIs s c r
   unfolding pictureRefusal
   refusal-22 r l e =
-      refused-as s c r 22 e (λ z. omega arith) (λ x k. let m : 1 < length (x .bodies) = omega (arith, k .bodies) in rw (counted x k, lt-ltb _ _ m))
+      refused-as s c r 22 e (λ z. omega arith) (λ x k. let m : 1 < length (x .bodies) = omega (arith, k .bodies) in
+      rw (counted x k, lt-ltb _ _ m))
 
   module _ (l : c .bodies ≤ 1) (w : Bool) (v : SizesAre s c w) where
     pub refusal-23 : (r : Judgement) → w ≡ true → r .number ≡ 23 → JudgementIs s c r

@@ -27,7 +27,8 @@ rows-add compression body n (suc a) b at =
     let e : suc a + b ≡ suc (a + b) = omega arith in
     rw e (go (λ q. rows-add compression body n a b q) (rowRead (rowOf compression body at n)))
   where
-    past : (bs : List ℕ) (v : Read (List (List ℕ))) → lineAnswer (thenRead (onward bs v) (λ rs q. rowsFrom compression body n b q)) ≡ lineAnswer (thenRead v (λ rs q. rowsFrom compression body n b q))
+    past : (bs : List ℕ) (v : Read (List (List ℕ))) →
+        lineAnswer (thenRead (onward bs v) (λ rs q. rowsFrom compression body n b q)) ≡ lineAnswer (thenRead v (λ rs q. rowsFrom compression body n b q))
     past bs (found (rs, q)) = refl
     past bs (refused k p) = refl
 
@@ -36,17 +37,20 @@ rows-add compression body n (suc a) b at =
         (v : Read (List ℕ)) →
         lineAnswer (thenRead v (λ bs q. onward bs (rowsFrom compression body n (a + b) q)))
         ≡ lineAnswer (thenRead (thenRead v (λ bs q. onward bs (rowsFrom compression body n a q))) (λ rs q. rowsFrom compression body n b q))
-    go ih (found (bs, q)) = answered-onward bs (rowsFrom compression body n (a + b) q) ∙ ih q ∙ sym (past bs (rowsFrom compression body n a q))
+    go ih (found (bs, q)) = answered-onward bs (rowsFrom compression body n (a + b) q) ∙ ih q ∙
+        sym (past bs (rowsFrom compression body n a q))
     go ih (refused k p) = refl
 
 module _ (compression w planes rows : ℕ) (body : List ℕ) where
   -- the lines from a place are told of as their rows are
-  lines-answered : (h at : ℕ) → lineAnswer (rowsFrom compression body (rowLength w) (h * rows) at) ≡ lineAnswer (linesBy compression w planes rows body h at)
+  lines-answered : (h at : ℕ) →
+      lineAnswer (rowsFrom compression body (rowLength w) (h * rows) at) ≡ lineAnswer (linesBy compression w planes rows body h at)
   unfolding rowsFrom linesBy
   lines-answered zero at = rw (zero-mul rows)
   lines-answered (suc h) at =
       let e : suc h * rows ≡ rows + h * rows = omega (arith, suc-mul h rows) in
-      rw e (rows-add compression body (rowLength w) rows (h * rows) at ∙ go (λ q. lines-answered h q) (rowsFrom compression body (rowLength w) rows at))
+      rw e (rows-add compression body (rowLength w) rows (h * rows) at ∙
+      go (λ q. lines-answered h q) (rowsFrom compression body (rowLength w) rows at))
     where
       past : (cs : List ℕ) (v : Read (List ℕ)) → lineAnswer v ≡ lineAnswer (thenRead v (λ rest r. found ((cs ++ rest), r)))
       past cs (found (rest, r)) = refl
@@ -55,7 +59,10 @@ module _ (compression w planes rows : ℕ) (body : List ℕ) where
       go :
           ((q : ℕ) → lineAnswer (rowsFrom compression body (rowLength w) (h * rows) q) ≡ lineAnswer (linesBy compression w planes rows body h q)) → (v : Read (List (List ℕ))) →
           lineAnswer (thenRead v (λ rs q. rowsFrom compression body (rowLength w) (h * rows) q))
-          ≡ lineAnswer (thenRead (thenRead v (λ rs q. found ((coloursFrom 0 w (take planes rs)), q))) (λ cs q. thenRead (linesBy compression w planes rows body h q) (λ rest r. found ((cs ++ rest), r))))
+          ≡ lineAnswer (thenRead (thenRead v (λ rs q. found (
+            (coloursFrom 0 w (take planes rs)),
+            q,
+          ))) (λ cs q. thenRead (linesBy compression w planes rows body h q) (λ rest r. found ((cs ++ rest), r))))
       go ih (found (rs, q)) = ih q ∙ past (coloursFrom 0 w (take planes rs)) (linesBy compression w planes rows body h q)
       go ih (refused k p) = refl
 
@@ -75,7 +82,8 @@ module _ (compression w planes rows : ℕ) (body : List ℕ) where
 
       pub frame-refusal :
           (k p : ℕ) → r ≡ Refused k p →
-          (Refused k p ≡ lineAnswer (linesBy compression w planes m body h 0)) × (old ≡ bytesAfter (linesBy compression w planes m body h 0) old)
+          (Refused k p ≡ lineAnswer (linesBy compression w planes m body h 0)) ×
+          (old ≡ bytesAfter (linesBy compression w planes m body h 0) old)
       frame-refusal k p d = rw (← c) (answered-refusal (linesBy compression w planes rows body h 0) r frame-answered old k p d)
 
   -- where lines are left, the first of them is read, and then the others
@@ -114,10 +122,12 @@ module _ (y h w len : ℕ) (l : y < h) (e : len ≡ w * h) where
     line-to-fits = omega (arith, line-inside)
 
 module _ (compression w planes rows : ℕ) (body : List ℕ) (h : ℕ) where
-  pub drawn-start : (frame : List ℕ) → IsRead (linesBy compression w planes rows body h 0) → Drawn compression w planes rows body h 0 0 frame
+  pub drawn-start : (frame : List ℕ) → IsRead (linesBy compression w planes rows body h 0) →
+      Drawn compression w planes rows body h 0 0 frame
   drawn-start frame i = go (linesBy compression w planes rows body h 0) refl i
     where
-      go : (v : Read (List ℕ)) → linesBy compression w planes rows body h 0 ≡ v → IsRead v → Drawn compression w planes rows body h 0 0 frame
+      go : (v : Read (List ℕ)) → linesBy compression w planes rows body h 0 ≡ v → IsRead v →
+          Drawn compression w planes rows body h 0 0 frame
       go (found (cs, p)) e i = let z : h - 0 ≡ h = omega arith in record { left = cs; end = p; to-come = rw z e; whole = rw (zero-mul w) e }
       go (refused k p) e i = absurd i
 
@@ -133,24 +143,31 @@ module _ (compression w planes rows : ℕ) (body : List ℕ) (h : ℕ) where
         where
           go :
               (v : Read (List (List ℕ))) →
-              thenRead (thenRead v (λ rs q. found ((coloursFrom 0 w (take planes rs)), q))) (λ cs p. thenRead (linesBy compression w planes rows body (h - (y + 1)) p) (λ rest r. found ((cs ++ rest), r)))
+              thenRead (thenRead v (λ rs q. found (
+                (coloursFrom 0 w (take planes rs)),
+                q,
+              ))) (λ cs p. thenRead (linesBy compression w planes rows body (h - (y + 1)) p) (λ rest r. found ((cs ++ rest), r)))
               ≡ found ((d .left), (d .end)) → IsRead v
           go (found (rs, s)) f = tt
           go (refused k p) f = let z : _≡_ {A = ℕ} 0 1 = cc in absurd (omega arith)
 
       pub drawn-more :
-          (p : ℕ) (new tail : List ℕ) → y * w + w ≤ length frame → length new ≡ w → lineBy compression w planes rows body q ≡ found (new, p) →
+          (p : ℕ) (new tail : List ℕ) → y * w + w ≤ length frame → length new ≡ w →
+          lineBy compression w planes rows body q ≡ found (new, p) →
           Drawn compression w planes rows body h (y + 1) p (take (y * w) frame ++ (new ++ tail))
       drawn-more p new tail m n i = go (linesBy compression w planes rows body (h - (y + 1)) p) refl (rw i at first)
         where
           so-far : take ((y + 1) * w) (take (y * w) frame ++ (new ++ tail)) ≡ take (y * w) frame ++ new
           so-far =
               let a : length (take (y * w) frame) ≡ y * w = length-take-le (y * w) frame (omega arith) in
-              let b : length (take (y * w) frame ++ new) ≡ (y + 1) * w = omega (arith, length-append (take (y * w) frame) new, add-mul y 1 w, one-mul w) in
-              ap (λ (xs : List ℕ). take ((y + 1) * w) xs) (sym (append-assoc (take (y * w) frame) new tail)) ∙ take-at (take (y * w) frame ++ new) tail ((y + 1) * w) b
+              let b : length (take (y * w) frame ++ new) ≡ (y + 1) * w =
+              omega (arith, length-append (take (y * w) frame) new, add-mul y 1 w, one-mul w) in
+              ap (λ (xs : List ℕ). take ((y + 1) * w) xs) (sym (append-assoc (take (y * w) frame) new tail)) ∙
+              take-at (take (y * w) frame ++ new) tail ((y + 1) * w) b
 
           go :
-              (v : Read (List ℕ)) → linesBy compression w planes rows body (h - (y + 1)) p ≡ v → thenRead v (λ rest r. found ((new ++ rest), r)) ≡ found ((d .left), (d .end)) →
+              (v : Read (List ℕ)) → linesBy compression w planes rows body (h - (y + 1)) p ≡ v →
+              thenRead v (λ rest r. found ((new ++ rest), r)) ≡ found ((d .left), (d .end)) →
               Drawn compression w planes rows body h (y + 1) p (take (y * w) frame ++ (new ++ tail))
           go (found (rest, r)) u f =
               let x : d .left ≡ new ++ rest = sym (one-value f) in
@@ -165,7 +182,8 @@ module _ (compression w planes rows : ℕ) (body : List ℕ) (h : ℕ) where
 
     pub drawn-end : y ≤ h → h ≤ y → length frame ≡ w * h → linesBy compression w planes rows body h 0 ≡ found (frame, q)
     drawn-end a b l =
-        let none : _≡_ {A = Read (List ℕ)} (found ([], q)) (found (d .left, d .end)) = rw (lines-none compression w planes rows body h y q b) at (d .to-come) in
+        let none : _≡_ {A = Read (List ℕ)} (found ([], q)) (found (d .left, d .end)) =
+        rw (lines-none compression w planes rows body h y q b) at (d .to-come) in
         let x : d .left ≡ [] = sym (one-value none) in
         let z : d .end ≡ q = sym (one-place none) in
         let e : y ≡ h = omega arith in

@@ -26,7 +26,8 @@ refused-at s (aGroup n t G) R hs f inner r rs o =
     let g : List ℕ = renamed (r ∷ rs) s in
     let m : ℕ = lowest (r .place) rs in
     let len = length-group n t G none in
-    let whole : length s ≡ length (bytes (group n t G none)) + length R = ap length (f .whole) ∙ length-append (bytes (group n t G none)) R in
+    let whole : length s ≡ length (bytes (group n t G none)) + length R = ap length (f .whole) ∙
+    length-append (bytes (group n t G none)) R in
     let k = mark-all G s (λ q h. omega (arith, header-high G q 12 h)) hs inner r rs o in
     let short = f .short in
     all-refused g m (file-refused s g m (k .front) (k .version) short (omega (arith, k .long)) n t G R f (k .header) (k .long))

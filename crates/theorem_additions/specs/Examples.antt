@@ -17,7 +17,8 @@ use Rattle.iff_name.specs.Codes.{FORM, LIST, PROP, CAT, JJJJ}
 use Rattle.ilbm_spec.specs.Names.{ILBM, BMHD}
 use Rattle.ilbm_spec.specs.Contents.{located, shared, absent, lastNamed, listScope, propertyOf, bodiesFrom, contentsFrom, noPicture}
 use Rattle.ilbm_spec.specs.Pictures.{headerIn, wrongSize, headerRefusal, pictureRefusal, Viewed, pickContent, viewOf}
-use Rattle.theorem_additions.specs.Additions.{here, past, into, Addition, chunk, trailing, propTypes, insert, boundaryPlace, around, growAll}
+use Rattle.theorem_additions.specs.Additions.{here, past, into, Addition, chunk, trailing, propTypes, insert, boundaryPlace, around}
+use Rattle.theorem_additions.specs.Additions.{growAll}
 use Rattle.theorem_additions.specs.Additions.{MayAddAll, fileAfter, movedBy, headersFrom, addedHeaders, renamed, lowest}
 use Rattle.theorem_additions.specs.Statement.{Unchanged, AllRefused}
 use Rattle.theorem_additions.specs.laws.Boundaries.{AAAA}
@@ -183,4 +184,8 @@ view-after = refl
 
 version-names : AllRefused (renamed (record { place = 124; name = FOR1 } ∷ record { place = 102; name = CAT9 } ∷ []) (fileAfter additions tree file)) 102
 unfolding lowest versionName addedHeaders movedBy headersFrom insert boundaryPlace bytes
-version-names = unchanged .renaming (record { place = 124; name = FOR1 }) (record { place = 102; name = CAT9 } ∷ []) (refl, refl, (refl, refl, tt))
+version-names = unchanged .renaming (record { place = 124; name = FOR1 }) (record { place = 102; name = CAT9 } ∷ []) (
+  refl,
+  refl,
+  (refl, refl, tt),
+)

@@ -24,7 +24,8 @@ use Rattle.ilbm_spec.specs.Contents.{movedContent}
 use Rattle.ilbm_spec.specs.Pictures.{Viewed, viewOf, pictureOf}
 use Rattle.ilbm_spec.specs.Palette.{paletteAnswer, Extent, paletteExtent}
 use Rattle.ilbm_spec.specs.Rows.{lineOf, frameOf, lineAnswer, frameAnswer, bytesAfter}
-use Rattle.theorem_additions.specs.Additions.{Addition, treeAfter, fileAfter, MayAddAll, movedBy, addedHeaders, Renaming, renamed, lowest}
+use Rattle.theorem_additions.specs.Additions.{Addition, treeAfter, fileAfter, MayAddAll, movedBy, addedHeaders, Renaming, renamed}
+use Rattle.theorem_additions.specs.Additions.{lowest}
 
 -- a picture as before, the places of its chunks moved; a refusal as before, with its place
 abbrev pub movedView : (ℕ → ℕ) → Viewed → Viewed

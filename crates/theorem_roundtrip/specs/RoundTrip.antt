@@ -59,7 +59,11 @@ module _ (b : BitmapHeader) (palette frame : List ℕ) (room n : ℕ) (range : I
   lines-read =
       let e : length frame ≡ b .h * b .w = may .whole ∙ mul-comm (b .w) (b .h) in
       let all = lines-back (withoutPad b) (may .unmasked) (b .h) frame [] [] e (may .colours) in
-      rw (append-nil (bodyLines (withoutPad b) frame (b .h)), same-lines b frame (b .h), zero-add (length (bodyLines b frame (b .h)))) at all
+      rw (
+        append-nil (bodyLines (withoutPad b) frame (b .h)),
+        same-lines b frame (b .h),
+        zero-add (length (bodyLines b frame (b .h))),
+      ) at all
 
   frame-read : frameRead (found (contentFor b palette frame)) (b .w * b .h) ≡ found (frame, 0)
   frame-read =
@@ -85,5 +89,6 @@ pub round-trip :
 round-trip b palette frame out n range e =
     let may = written-writable b palette frame (length out) n e in
     let s : take n (outAfter (writeOf b palette frame (length out)) (pictureFile b palette frame) out) ≡ pictureFile b palette frame =
-    ap (λ (a : WriteAnswer). take n (outAfter a (pictureFile b palette frame) out)) e ∙ take-at (pictureFile b palette frame) (drop n out) n (may .size) in
+    ap (λ (a : WriteAnswer). take n (outAfter a (pictureFile b palette frame) out)) e ∙
+    take-at (pictureFile b palette frame) (drop n out) n (may .size) in
     rw s (file-back b palette frame (length out) n range may)

@@ -5,58 +5,67 @@ use Rattle.ilbm_content.proofs.Laws.{last-marked, body-marked, all-cont
 use borrow.Author.Needs.{needs}
 use Rattle.ilbm_content.proofs.content_at.Statement.{statement}
 use Rattle.ilbm_content.proofs.content_at.Tie as tie
-use Rattle.ilbm_content.proofs.content_at.Reads as reads
-use Rattle.ilbm_content.proofs.content_at.Lts as lts
-use Rattle.ilbm_content.proofs.part_at.Reads as part-at-reads
-use Rattle.ilbm_content.proofs.property.Reads as property-reads
-use Rattle.ilbm_members.proofs.gather.Reads as gather-reads
 
--- src/lib.rt:76:23
 add-gather : tie.Need-add-gather
 add-gather c = search needs
 
--- src/lib.rt:76:9
 gather-requires : tie.Need-gather-requires
 gather-requires c κs = search needs
 
--- src/lib.rt:84:15
 property-requires : tie.Need-property-requires
-property-requires c κs = (last-marked _ _ _ BMHD _ (c .before .before .before .before .before .before .before .before .pre .0) (c .before .before .before .before .before .before .gather .ensures .last .bmhd), (c .before .before .before .before .before .before .before .before .pre .1 .0 BMHD, c .before .before .before .before .before .before .before .before .pre .1 .1 .bmhd))
+property-requires c κs =
+    let entry = c .before .before .before .before .before .before .before .before in
+    let passed = c .before .before .before .before .before .before in
+    (last-marked _ _ _ BMHD _ (entry .pre .0) (passed .gather .ensures .last .bmhd), (entry .pre .1 .0 BMHD, entry .pre .1 .1 .bmhd))
 
--- src/lib.rt:85:15
 property-requires-2 : tie.Need-property-requires-2
-property-requires-2 c κs = (last-marked _ _ _ CMAP _ (c .before .before .before .before .before .before .before .before .before .pre .0) (c .before .before .before .before .before .before .before .gather .ensures .last .cmap), (c .before .before .before .before .before .before .before .before .before .pre .1 .0 CMAP, c .before .before .before .before .before .before .before .before .before .pre .1 .1 .cmap))
+property-requires-2 c κs =
+    let entry = c .before .before .before .before .before .before .before .before .before in
+    let passed = c .before .before .before .before .before .before .before in
+    (last-marked _ _ _ CMAP _ (entry .pre .0) (passed .gather .ensures .last .cmap), (entry .pre .1 .0 CMAP, entry .pre .1 .1 .cmap))
 
--- src/lib.rt:86:15
 property-requires-3 : tie.Need-property-requires-3
-property-requires-3 c κs = (last-marked _ _ _ GRAB _ (c .before .before .before .before .before .before .before .before .before .before .pre .0) (c .before .before .before .before .before .before .before .before .gather .ensures .last .grab), (c .before .before .before .before .before .before .before .before .before .before .pre .1 .0 GRAB, c .before .before .before .before .before .before .before .before .before .before .pre .1 .1 .grab))
+property-requires-3 c κs =
+    let entry = c .before .before .before .before .before .before .before .before .before .before in
+    let passed = c .before .before .before .before .before .before .before .before in
+    (last-marked _ _ _ GRAB _ (entry .pre .0) (passed .gather .ensures .last .grab), (entry .pre .1 .0 GRAB, entry .pre .1 .1 .grab))
 
--- src/lib.rt:87:15
 property-requires-4 : tie.Need-property-requires-4
-property-requires-4 c κs = (last-marked _ _ _ DEST _ (c .before .before .before .before .before .before .before .before .before .before .before .pre .0) (c .before .before .before .before .before .before .before .before .before .gather .ensures .last .dest), (c .before .before .before .before .before .before .before .before .before .before .before .pre .1 .0 DEST, c .before .before .before .before .before .before .before .before .before .before .before .pre .1 .1 .dest))
+property-requires-4 c κs =
+    let entry = c .before .before .before .before .before .before .before .before .before .before .before in
+    let passed = c .before .before .before .before .before .before .before .before .before in
+    (last-marked _ _ _ DEST _ (entry .pre .0) (passed .gather .ensures .last .dest), (entry .pre .1 .0 DEST, entry .pre .1 .1 .dest))
 
--- src/lib.rt:88:15
 property-requires-5 : tie.Need-property-requires-5
-property-requires-5 c κs = (last-marked _ _ _ SPRT _ (c .before .before .before .before .before .before .before .before .before .before .before .before .pre .0) (c .before .before .before .before .before .before .before .before .before .before .gather .ensures .last .sprt), (c .before .before .before .before .before .before .before .before .before .before .before .before .pre .1 .0 SPRT, c .before .before .before .before .before .before .before .before .before .before .before .before .pre .1 .1 .sprt))
+property-requires-5 c κs =
+    let entry = c .before .before .before .before .before .before .before .before .before .before .before .before in
+    let passed = c .before .before .before .before .before .before .before .before .before .before in
+    (last-marked _ _ _ SPRT _ (entry .pre .0) (passed .gather .ensures .last .sprt), (entry .pre .1 .0 SPRT, entry .pre .1 .1 .sprt))
 
--- src/lib.rt:89:15
 property-requires-6 : tie.Need-property-requires-6
-property-requires-6 c κs = (last-marked _ _ _ CAMG _ (c .before .before .before .before .before .before .before .before .before .before .before .before .before .pre .0) (c .before .before .before .before .before .before .before .before .before .before .before .gather .ensures .last .camg), (c .before .before .before .before .before .before .before .before .before .before .before .before .before .pre .1 .0 CAMG, c .before .before .before .before .before .before .before .before .before .before .before .before .before .pre .1 .1 .camg))
+property-requires-6 c κs =
+    let entry = c .before .before .before .before .before .before .before .before .before .before .before .before .before in
+    let passed = c .before .before .before .before .before .before .before .before .before .before .before in
+    (last-marked _ _ _ CAMG _ (entry .pre .0) (passed .gather .ensures .last .camg), (entry .pre .1 .0 CAMG, entry .pre .1 .1 .camg))
 
--- src/lib.rt:91:15
 part-at-requires : tie.Need-part-at-requires
-part-at-requires c κs = body-marked _ _ _ _ (c .before .before .before .before .before .before .before .before .before .before .before .before .before .before .pre .0) (c .before .before .before .before .before .before .before .before .before .before .before .before .gather .ensures)
+part-at-requires c κs =
+    let passed = c .before .before .before .before .before .before .before .before .before .before .before .before in
+    body-marked _ _ _ _ (passed .before .before .pre .0) (passed .gather .ensures)
 
--- src/lib.rt:72:1
 returns : tie.Need-returns
 returns c =
-    all-content _ _ _ _ _ _ (c .before .before .before .before .before .before .before .before .before .before .before .before .before .gather .ensures)
-    (c .before .before .before .before .before .before .property .ensures)
-    (c .before .before .before .before .before .property2 .ensures)
-    (c .before .before .before .before .property3 .ensures)
-    (c .before .before .before .property4 .ensures)
-    (c .before .before .property5 .ensures)
-    (c .before .property6 .ensures)
+    let camg = c .before in
+    let grab = camg .before .before .before in
+    let bmhd = grab .before .before in
+    let passed = bmhd .before .before .before .before .before .before .before in
+    all-content _ _ _ _ _ _ (passed .gather .ensures)
+    (bmhd .property .ensures)
+    (grab .before .property2 .ensures)
+    (grab .property3 .ensures)
+    (camg .before .before .property4 .ensures)
+    (camg .before .property5 .ensures)
+    (camg .property6 .ensures)
     refl
     (c .part-at .ensures)
 

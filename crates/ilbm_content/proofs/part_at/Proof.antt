@@ -4,35 +4,25 @@ use Rattle.ilbm_content.proofs.Laws.{part-none, part-some, part-room, p
 use borrow.Author.Needs.{needs}
 use Rattle.ilbm_content.proofs.part_at.Statement.{statement}
 use Rattle.ilbm_content.proofs.part_at.Tie as tie
-use Rattle.ilbm_content.proofs.part_at.Reads as reads
-use Rattle.ilbm_content.proofs.part_at.Lts as lts
-use Rattle.iff_chunk.proofs.size_at.Reads as size-at-reads
 
--- src/lib.rt:42:9
 returns : tie.Need-returns
 returns c = search (part-none, needs)
 
--- src/lib.rt:44:27
 add-size-at : tie.Need-add-size-at
 add-size-at c = omega (arith, place-fits _ _ (c .if1 .left) (c .before .before .pre))
 
--- src/lib.rt:44:9
 size-at-requires : tie.Need-size-at-requires
 size-at-requires c κs = part-room _ _ (c .if1 .left) (c .before .before .pre)
 
--- src/lib.rt:45:19
 add-t5 : tie.Need-add-t5
 add-t5 c = omega (arith, place-fits _ _ (c .before .if1 .left) (c .before .before .before .pre))
 
--- src/lib.rt:45:30
 add-t6 : tie.Need-add-t6
 add-t6 c = omega (arith, place-fits _ _ (c .before .if1 .left) (c .before .before .before .pre))
 
--- src/lib.rt:45:30
 add-t7 : tie.Need-add-t7
 add-t7 c = omega (arith, part-fits _ _ (c .before .if1 .left) _ (c .size-at .ensures .0) (c .before .before .before .pre))
 
--- src/lib.rt:37:1
 returns-2 : tie.Need-returns-2
 returns-2 c = part-some _ _ (c .before .if1 .left) _ (c .size-at .ensures .0)
 

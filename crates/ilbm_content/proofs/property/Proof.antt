@@ -3,27 +3,19 @@ use Rattle.ilbm_content.proofs.Laws.{own-counts, shared-counts, nothing
 use borrow.Author.Needs.{needs}
 use Rattle.ilbm_content.proofs.property.Statement.{statement}
 use Rattle.ilbm_content.proofs.property.Tie as tie
-use Rattle.ilbm_content.proofs.property.Reads as reads
-use Rattle.ilbm_content.proofs.property.Lts as lts
-use Rattle.ilbm_content.proofs.part_at.Reads as part-at-reads
 
--- src/lib.rt:55:19
 part-at-requires : tie.Need-part-at-requires
 part-at-requires c κs = search needs
 
--- src/lib.rt:54:9
 returns : tie.Need-returns
 returns c = search (own-counts, needs)
 
--- src/lib.rt:61:19
 part-at-requires-2 : tie.Need-part-at-requires-2
 part-at-requires-2 c κs = search (shared-marked, needs)
 
--- src/lib.rt:60:9
 returns-2 : tie.Need-returns-2
 returns-2 c = search (shared-counts, needs)
 
--- src/lib.rt:49:1
 returns-3 : tie.Need-returns-3
 returns-3 c = search (nothing-counts, needs)
 

@@ -14,7 +14,11 @@ enum-known-v : tie.Need-enum-known-v
 enum-known-v c = search needs
 
 view-sound-requires : tie.Need-view-sound-requires
-view-sound-requires c κs = accepted-sound _ (λ i. omega (arith, c .before .before .before .before .shared-slice-known .given i)) _ _ _ (sym (c .before .before .before .check .ensures) ∙ c .before .v .given .1)
+view-sound-requires c κs = accepted-sound _ (λ i. omega (
+  arith,
+  c .before .before .before .before .shared-slice-known .given i,
+)) _ _ _ (sym (c .before .before .before .check .ensures) ∙
+    c .before .v .given .1)
 
 enum-known-v-2 : tie.Need-enum-known-v-2
 enum-known-v-2 c = search needs

@@ -76,7 +76,16 @@ abbrev seek-calls : ℕ → seek-lts.Claims
 seek-calls t = (visit-below t, visit.Post, sibling-at-reads.Asked, sibling-at-reads.Learnt)
 
 abbrev visit-calls : ℕ → visit-lts.Claims
-visit-calls t = (name-at-reads.Asked, name-at-reads.Learnt, kind-reads.Asked, kind-reads.Learnt, is-group-reads.Asked, is-group-reads.Learnt, open-below t, open.Post)
+visit-calls t = (
+  name-at-reads.Asked,
+  name-at-reads.Learnt,
+  kind-reads.Asked,
+  kind-reads.Learnt,
+  is-group-reads.Asked,
+  is-group-reads.Learnt,
+  open-below t,
+  open.Post,
+)
 
 enter-add-end : (t : ℕ) → enter-lts.Need-add-end (enter-calls t) (enter-at t) enter.Post
 enter-add-end t c = search (group-laws, visit-laws, needs)

@@ -6,11 +6,6 @@ use Rattle.ilbm_locate.proofs.ScopeLaws.{Sharing, sharing-laws, sharing
 use borrow.Author.Needs.{needs}
 use Rattle.ilbm_locate.proofs.list_scope.Statement.{statement}
 use Rattle.ilbm_locate.proofs.list_scope.Tie as tie
-use Rattle.ilbm_locate.proofs.list_scope.Reads as reads
-use Rattle.ilbm_locate.proofs.list_scope.Lts as lts
-use Rattle.ilbm_locate.proofs.prop_scope.Reads as prop-scope-reads
-use Rattle.ilbm_locate.proofs.shared_prop_at.Reads as shared-prop-at-reads
-use Rattle.ilbm_members.proofs.sibling_at.Reads as sibling-at-reads
 
 abbrev Inv-loop : tie.InvT-loop
 Inv-loop s p e scope q₀ q = (p ≤ q) × (q ≤ e) × Row s q e × Sharing s p e q
@@ -18,35 +13,27 @@ Inv-loop s p e scope q₀ q = (p ≤ q) × (q ≤ e) × Row s q e × Sharing s p
 abbrev μ-loop : tie.MeasureT-loop
 μ-loop s p e scope q₀ q = e - q
 
--- src/lib.rt:95:5
 loop-holds : tie.Need-loop-holds Inv-loop μ-loop
 loop-holds c = search (sharing-laws, needs)
 
--- src/lib.rt:96:12
 shared-prop-at-requires : tie.Need-shared-prop-at-requires Inv-loop μ-loop
 shared-prop-at-requires c κs = search (sharing-laws, needs)
 
--- src/lib.rt:97:13
 prop-scope-requires : tie.Need-prop-scope-requires Inv-loop μ-loop
 prop-scope-requires c κs = search (sharing-laws, needs)
 
--- src/lib.rt:97:13
 returns : tie.Need-returns Inv-loop μ-loop
 returns c = search (sharing-laws, needs)
 
--- src/lib.rt:99:13
 sibling-at-requires : tie.Need-sibling-at-requires Inv-loop μ-loop
 sibling-at-requires c κs = search (sharing-laws, needs)
 
--- src/lib.rt:95:5
 loop-less : tie.Need-loop-less Inv-loop μ-loop
 loop-less c = search (sharing-laws, needs)
 
--- src/lib.rt:95:5
 loop-again : tie.Need-loop-again Inv-loop μ-loop
 loop-again c = search (sharing-laws, needs)
 
--- src/lib.rt:90:1
 returns-2 : tie.Need-returns-2 Inv-loop μ-loop
 returns-2 c = sharing-end _ _ _ _ _ (omega arith) (c .before .loop .inv .3)
 

@@ -3,42 +3,28 @@ use Rattle.ilbm_locate.proofs.Laws.{name-room, type-room, group-tested,
 use borrow.Author.Needs.{needs}
 use Rattle.ilbm_locate.proofs.shared_prop_at.Statement.{statement}
 use Rattle.ilbm_locate.proofs.shared_prop_at.Tie as tie
-use Rattle.ilbm_locate.proofs.shared_prop_at.Reads as reads
-use Rattle.ilbm_locate.proofs.shared_prop_at.Lts as lts
-use Rattle.iff_chunk.proofs.name_at.Reads as name-at-reads
-use Rattle.iff_name.proofs.Name.kind.Reads as kind-reads
-use Rattle.iff_rules.proofs.is_group.Reads as is-group-reads
-use Rattle.ilbm_names.proofs.is_shared_prop.Reads as is-shared-prop-reads
 
--- src/lib.rt:59:9
 name-at-requires : tie.Need-name-at-requires
 name-at-requires c κs = search (name-room, needs)
 
--- src/lib.rt:60:17
 kind-requires : tie.Need-kind-requires
 kind-requires c κs = search needs
 
--- src/lib.rt:60:8
 is-group-requires : tie.Need-is-group-requires
 is-group-requires c κs = search needs
 
--- src/lib.rt:61:45
 add-name-at : tie.Need-add-name-at
 add-name-at c = search needs
 
--- src/lib.rt:61:34
 name-at-requires-2 : tie.Need-name-at-requires-2
 name-at-requires-2 c κs = search (type-room, needs)
 
--- src/lib.rt:61:9
 is-shared-prop-requires : tie.Need-is-shared-prop-requires
 is-shared-prop-requires c κs = search needs
 
--- src/lib.rt:61:9
 returns : tie.Need-returns
 returns c = search (group-tested, needs)
 
--- src/lib.rt:55:1
 returns-2 : tie.Need-returns-2
 returns-2 c = search (leaf-tested, needs)
 

@@ -7,11 +7,6 @@ use Rattle.ilbm_members.proofs.Laws.{row-le, row-next, more-room, more-
 use Rattle.ilbm_members.proofs.PassLaws.{Gathering, gathering-start, gathering-more, gathering-end, few-enough}
 use Rattle.ilbm_members.proofs.gather.Statement.{statement}
 use Rattle.ilbm_members.proofs.gather.Tie as tie
-use Rattle.ilbm_members.proofs.gather.Reads as reads
-use Rattle.ilbm_members.proofs.gather.Lts as lts
-use Rattle.ilbm_members.proofs.none_yet.Reads as none-yet-reads
-use Rattle.ilbm_members.proofs.sibling_at.Reads as sibling-at-reads
-use Rattle.ilbm_members.proofs.taken.Reads as taken-reads
 
 abbrev Inv-loop : tie.InvT-loop
 Inv-loop s p e whole q₀ g₀ q g = (p ≤ q) × (q ≤ e) × Row s q e × Gathering s p e whole q g
@@ -19,31 +14,24 @@ Inv-loop s p e whole q₀ g₀ q g = (p ≤ q) × (q ≤ e) × Row s q e × Gath
 abbrev μ-loop : tie.MeasureT-loop
 μ-loop s p e whole q₀ g₀ q g = e - q
 
--- src/lib.rt:102:9
 none-yet-requires : tie.Need-none-yet-requires Inv-loop μ-loop
 none-yet-requires c κs = search needs
 
--- src/lib.rt:103:5
 loop-holds : tie.Need-loop-holds Inv-loop μ-loop
 loop-holds c = search (row-le, gathering-start, needs)
 
--- src/lib.rt:104:13
 sibling-at-requires : tie.Need-sibling-at-requires Inv-loop μ-loop
 sibling-at-requires c κs = search needs
 
--- src/lib.rt:105:9
 taken-requires : tie.Need-taken-requires Inv-loop μ-loop
 taken-requires c κs = search (few-enough, needs)
 
--- src/lib.rt:103:5
 loop-less : tie.Need-loop-less Inv-loop μ-loop
 loop-less c = search (more-less, needs)
 
--- src/lib.rt:103:5
 loop-again : tie.Need-loop-again Inv-loop μ-loop
 loop-again c = search (row-next, more-room, gathering-more, needs)
 
--- src/lib.rt:97:1
 returns : tie.Need-returns Inv-loop μ-loop
 returns c = gathering-end _ _ _ _ _ _ (omega arith) (c .before .loop .inv .3)
 

@@ -5,40 +5,28 @@ use Rattle.ilbm_members.proofs.Laws.{row-room, front-read, sibling-insi
 use borrow.Author.Needs.{needs}
 use Rattle.ilbm_members.proofs.sibling_at.Statement.{statement}
 use Rattle.ilbm_members.proofs.sibling_at.Tie as tie
-use Rattle.ilbm_members.proofs.sibling_at.Reads as reads
-use Rattle.ilbm_members.proofs.sibling_at.Lts as lts
-use Rattle.iff_chunk.proofs.name_at.Reads as name-at-reads
-use Rattle.iff_chunk.proofs.size_at.Reads as size-at-reads
 
--- src/lib.rt:29:24
 add-size-at : tie.Need-add-size-at
 add-size-at c = search needs
 
--- src/lib.rt:29:9
 size-at-requires : tie.Need-size-at-requires
 size-at-requires c κs = omega (arith, row-room _ _ _ (c .before .pre .0) (c .before .pre .1))
 
--- src/lib.rt:31:15
 name-at-requires : tie.Need-name-at-requires
 name-at-requires c κs = omega (arith, row-room _ _ _ (c .before .before .pre .0) (c .before .before .pre .1))
 
--- src/lib.rt:32:15
 add-t5 : tie.Need-add-t5
 add-t5 c = search needs
 
--- src/lib.rt:32:24
 add-t7 : tie.Need-add-t7
 add-t7 c = search needs
 
--- src/lib.rt:32:23
 mul-t9 : tie.Need-mul-t9
 mul-t9 c = search needs
 
--- src/lib.rt:32:15
 add-t10 : tie.Need-add-t10
 add-t10 c = search needs
 
--- src/lib.rt:25:1
 returns : tie.Need-returns
 returns c =
     let r = c .before .before .before .pre .0 in

@@ -1,6 +1,7 @@
 -- The six tests are those of the definition, each on its own property.
 use borrow.Author.Needs.{needs}
-use Rattle.ilbm_refusals.proofs.Laws.{sized-bmhd, sized-cmap, sized-grab, sized-dest, sized-sprt, sized-camg, wrong-bmhd, wrong-cmap, wrong-grab, wrong-dest, wrong-sprt, wrong-camg}
+use Rattle.ilbm_refusals.proofs.Laws.{sized-bmhd, sized-cmap, sized-grab, sized-dest, sized-sprt, sized-camg, wrong-bmhd}
+use Rattle.ilbm_refusals.proofs.Laws.{wrong-cmap, wrong-grab, wrong-dest, wrong-sprt, wrong-camg}
 use Rattle.ilbm_refusals.proofs.wrong_size.Statement.{statement}
 use Rattle.ilbm_refusals.proofs.wrong_size.Tie as tie
 

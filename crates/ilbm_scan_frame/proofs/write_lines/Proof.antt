@@ -66,7 +66,8 @@ loop-again c =
       search needs,
       l .kept .1 .1 .1 .1 .1 .1 .0 ∙ b .before .loop .inv .1,
       same-len-mid from (from + w - from) frame new kept ∙ b .before .loop .inv .2,
-      drawn-more _ _ _ _ _ _ _ _ frame (b .before .loop .inv .3) (b .loop-test .taken) (l .result) new _ (room b) (kept ∙ part-long from w frame (room b)) (l .ensures),
+      drawn-more _ _ _ _ _ _ _ _ frame (b .before .loop .inv .3) (b .loop-test .taken) (l .result) new _ (room b) (kept ∙
+          part-long from w frame (room b)) (l .ensures),
     )
 
 same-length : tie.Need-same-length Inv-loop μ-loop
@@ -78,7 +79,8 @@ same-length-2 c = search (drawing, needs)
 returns : tie.Need-returns Inv-loop μ-loop
 returns c =
     let a = c .before in
-    drawn-end _ _ _ _ _ _ _ _ _ (a .loop .inv .3) (a .loop .inv .0) (c .loop-test .left) (a .loop .inv .2 ∙ a .before .before .before .before .pre .1 .0 .1)
+    drawn-end _ _ _ _ _ _ _ _ _ (a .loop .inv .3) (a .loop .inv .0) (c .loop-test .left) (a .loop .inv .2 ∙
+    a .before .before .before .before .pre .1 .0 .1)
 
 pub write-lines-spec : {M : Type 1} → statement M
 write-lines-spec =

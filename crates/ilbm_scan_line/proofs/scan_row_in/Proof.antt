@@ -18,8 +18,16 @@ enum-known-judged : tie.Need-enum-known-judged
 enum-known-judged c = search needs
 
 write-line-requires : tie.Need-write-line-requires
-write-line-requires c κs =
-    (search needs, ((count-room _ _ _ _ (c .before .before .before .before .before .before .row-count .ensures .0) (search needs), search needs), search (lines, needs)))
+write-line-requires c κs = (
+  search needs,
+  (
+    (
+      count-room _ _ _ _ (c .before .before .before .before .before .before .row-count .ensures .0) (search needs),
+      search needs,
+    ),
+    search (lines, needs),
+  ),
+)
 
 enum-known-judged-2 : tie.Need-enum-known-judged-2
 enum-known-judged-2 c = search needs

@@ -11,7 +11,8 @@ use Rattle.iff_name.specs.Codes.{LIST}
 use Rattle.iff_chunk.specs.Chunks.{Chunks, none, leaf, group, bytes}
 use Rattle.ilbm_spec.specs.Names.{BMHD, CMAP, GRAB, DEST, SPRT, CAMG, BODY, isPicture, isSharedProp}
 use Rattle.ilbm_spec.specs.Contents.{Located, located, lastNamed, atBody, nowhere, Property, own, shared, absent, Scope, sharedFrom}
-use Rattle.ilbm_spec.specs.Contents.{propScope, listScope, scopeInside, ownOr, propertyOf, bodiesFrom, Content, contentOf, contentsFrom}
+use Rattle.ilbm_spec.specs.Contents.{propScope, listScope, scopeInside, ownOr, propertyOf, bodiesFrom, Content, contentOf}
+use Rattle.ilbm_spec.specs.Contents.{contentsFrom}
 use Rattle.ilbm_spec.specs.Contents.{movedLocated, movedProperty, movedBodies, movedContent}
 use Rattle.ilbm_spec.specs.laws.Ignored.{Known, known}
 
@@ -43,7 +44,8 @@ module _ (move : ℕ → ℕ) where
   pick-moved false p p′ d o o′ m e = e
 
   pub ended-moved :
-      (b : Bool) (o o′ v v′ : Option Located) → o′ ≡ movedOption move o → v′ ≡ movedOption move v → pick b o′ v′ ≡ movedOption move (pick b o v)
+      (b : Bool) (o o′ v v′ : Option Located) → o′ ≡ movedOption move o → v′ ≡ movedOption move v →
+      pick b o′ v′ ≡ movedOption move (pick b o v)
   ended-moved true o o′ v v′ e f = e
   ended-moved false o o′ v v′ e f = f
 
@@ -76,7 +78,8 @@ module _ (move : ℕ → ℕ) where
   bodies-carried (leaf n d pad F) p p′ c = body-moved (eqb n BODY) p p′ d _ _ (c .0) (bodies-carried F _ _ (c .1))
   bodies-carried (group n t G F) p p′ c = bodies-carried F _ _ (c .2)
 
-  shared-moved : (p p′ : ℕ) (o o′ : Option Located) → move p ≡ p′ → o′ ≡ movedOption move o → sharedFrom p′ o′ ≡ movedProperty move (sharedFrom p o)
+  shared-moved : (p p′ : ℕ) (o o′ : Option Located) → move p ≡ p′ → o′ ≡ movedOption move o →
+      sharedFrom p′ o′ ≡ movedProperty move (sharedFrom p o)
   shared-moved p p′ o o′ m e = ap₂ (λ (q : ℕ) (x : Option Located). sharedFrom q x) (sym m) e ∙ go o
     where
       go : (o : Option Located) → sharedFrom (move p) (movedOption move o) ≡ movedProperty move (sharedFrom p o)
@@ -120,7 +123,8 @@ module _ (move : ℕ → ℕ) where
 
   -- a group's own content, its members' and those behind it
   pub group-moved :
-      (b : Bool) (C C′ : Content) (A A′ B B′ : List Content) → C′ ≡ movedContent move C → A′ ≡ mapContents move A → B′ ≡ mapContents move B →
+      (b : Bool) (C C′ : Content) (A A′ B B′ : List Content) → C′ ≡ movedContent move C → A′ ≡ mapContents move A →
+      B′ ≡ mapContents move B →
       pick b (C′ ∷ []) [] ++ (A′ ++ B′) ≡ mapContents move (pick b (C ∷ []) [] ++ (A ++ B))
   group-moved true C C′ A A′ B B′ c a b =
       ap₂ (λ (x : Content) (l : List Content). x ∷ l) c (ap₂ (λ (x y : List Content). x ++ y) a b ∙ sym (map-append A B))
@@ -128,14 +132,16 @@ module _ (move : ℕ → ℕ) where
 
   -- one scope or another
   pub pick-scope :
-      (b : Bool) (near near′ far far′ : Scope) → SameScope move near near′ → SameScope move far far′ → SameScope move (pick b near far) (pick b near′ far′)
+      (b : Bool) (near near′ far far′ : Scope) → SameScope move near near′ → SameScope move far far′ →
+      SameScope move (pick b near far) (pick b near′ far′)
   pick-scope true near near′ far far′ n f = n
   pick-scope false near near′ far far′ n f = f
 
   -- what a PROP gives whose members are G, and then G′
   pub prop-moved :
       (p p′ : ℕ) (G G′ : Chunks) → move p ≡ p′ →
-      ((name : ℕ) → Known name → lastNamed nowhere name (p′ + 12) nothing G′ ≡ movedOption move (lastNamed nowhere name (p + 12) nothing G)) →
+      ((name : ℕ) → Known name →
+      lastNamed nowhere name (p′ + 12) nothing G′ ≡ movedOption move (lastNamed nowhere name (p + 12) nothing G)) →
       SameScope move (propScope p G) (propScope p′ G′)
   prop-moved p p′ G G′ m e = λ name k. shared-moved p p′ (lastNamed nowhere name (p + 12) nothing G) _ m (e name k)
 

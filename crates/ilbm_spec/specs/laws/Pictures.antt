@@ -11,7 +11,8 @@ use Rattle.ilbm_spec.specs.declared.BitmapHeader.{BitmapHeader}
 use Rattle.ilbm_spec.specs.Contents.{Content}
 use Rattle.ilbm_spec.specs.Pictures.{headerIn, dataOf, counts, wrongSize, headerRefusal, pictureRefusal}
 
-not-refused : (x : Content) → pictureRefusal x ≡ 0 → (wrongSize x ≡ false) × (headerRefusal (headerIn (dataOf (x .bmhd))) (ltb 0 (length (x .bodies))) ≡ 0)
+not-refused : (x : Content) → pictureRefusal x ≡ 0 → (wrongSize x ≡ false) ×
+    (headerRefusal (headerIn (dataOf (x .bmhd))) (ltb 0 (length (x .bodies))) ≡ 0)
 unfolding pictureRefusal
 not-refused x e = go (counts (x .bmhd)) (ltb 1 (length (x .bodies))) (wrongSize x) _ e
   where

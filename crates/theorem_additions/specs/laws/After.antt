@@ -10,7 +10,8 @@ use Rattle.iff_grammar.specs.Grammar.{ChunkFile}
 use Rattle.ilbm_spec.specs.Contents.{Located, located, Property, own, shared, absent, noScope, Content, contentsOf}
 use Rattle.ilbm_spec.specs.Contents.{movedLocated, movedProperty, movedBodies, movedContent}
 use Rattle.ilbm_spec.specs.laws.Moved.{mapContents, contents-carried}
-use Rattle.theorem_additions.specs.Additions.{into, Addition, chunk, trailing, insert, boundaryPlace, bytesOf, added, addedAt, treeWith, fileWith, MayAdd}
+use Rattle.theorem_additions.specs.Additions.{into, Addition, chunk, trailing, insert, boundaryPlace, bytesOf, added, addedAt}
+use Rattle.theorem_additions.specs.Additions.{treeWith, fileWith, MayAdd}
 use Rattle.theorem_additions.specs.Additions.{treeAfter, fileAfter, MayAddAll, moved, movedBy}
 use Rattle.theorem_additions.specs.laws.Bytes.{may-at}
 use Rattle.theorem_additions.specs.laws.Files.{outermost-group, file-with}

@@ -14,7 +14,8 @@ use Rattle.iff_chunk.specs.Chunks.{Chunks, none, leaf, group, Chunk, aLeaf, aGr
 use Rattle.iff_grammar.specs.laws.Read.{length-leaf, length-group}
 use Rattle.iff_name.specs.Codes.{LIST}
 use Rattle.ilbm_spec.specs.Names.{BODY, isPicture, isSharedProp}
-use Rattle.ilbm_spec.specs.Contents.{Located, lastNamed, atBody, nowhere, Scope, listScope, scopeInside, bodiesFrom, contentOf, contentsFrom, movedBodies}
+use Rattle.ilbm_spec.specs.Contents.{Located, lastNamed, atBody, nowhere, Scope, listScope, scopeInside, bodiesFrom, contentOf}
+use Rattle.ilbm_spec.specs.Contents.{contentsFrom, movedBodies}
 use Rattle.ilbm_spec.specs.laws.Ignored.{Ignored, span, Passes, Known, known, named-past, bodies-past, scope-past, contents-past}
 use Rattle.ilbm_spec.specs.laws.Moved.{movedOption, mapContents, ChunksMove, SameScope, pick-moved, ended-moved, body-moved, named-carried}
 use Rattle.ilbm_spec.specs.laws.Moved.{bodies-carried, content-moved, content-carried, group-moved, pick-scope, prop-moved, prop-carried}
@@ -51,8 +52,10 @@ carries-after q k p p′ len h e x l = moved-after q k (p + x) (omega arith) ∙
 pub chunks-move : (F : Chunks) (move : ℕ → ℕ) (p p′ : ℕ) → Carries move p p′ (length (bytes F)) → ChunksMove move p p′ F
 chunks-move none move p p′ c = tt
 chunks-move (leaf n d pd F) move p p′ c =
-    let len = length-leaf n d pd F in
-    (carries-first move p p′ _ (omega arith) c, chunks-move F move _ _ (carries-part move p p′ _ (8 + length d + length pd) (length (bytes F)) (omega arith) c))
+    let len = length-leaf n d pd F in (
+      carries-first move p p′ _ (omega arith) c,
+      chunks-move F move _ _ (carries-part move p p′ _ (8 + length d + length pd) (length (bytes F)) (omega arith) c),
+    )
 chunks-move (group n t G F) move p p′ c =
     let len = length-group n t G F in (
       carries-first move p p′ _ (omega arith) c,
@@ -111,7 +114,8 @@ named-inserted :
     (p : ℕ) (o o′ : Option Located) → o′ ≡ movedOption (moved (boundaryPlace i p F) (length (bytesOf X))) o →
     lastNamed ends name p o′ (insert i X F) ≡ movedOption (moved (boundaryPlace i p F) (length (bytesOf X))) (lastNamed ends name p o F)
 unfolding lastNamed boundaryPlace insert
-named-inserted ends e name k here X F g h p o o′ s = named-past ends e name k X F g p o′ ∙ named-carried _ ends name F p _ o o′ (shifted X F p) s
+named-inserted ends e name k here X F g h p o o′ s = named-past ends e name k X F g p o′ ∙
+    named-carried _ ends name F p _ o o′ (shifted X F p) s
 named-inserted ends e name k (past i) X none g h p o o′ s = absurd h
 named-inserted ends e name k (past i) X (leaf n d pd F) g h p o o′ s =
     let low = place-low i F (p + (8 + length d + length pd)) in

@@ -79,8 +79,20 @@ filler-in-cat = ((refl, tt, refl), (refl, tt, refl), (refl, tt, refl), (refl, tt
 -- what is inside the FORM and the PROP is sound
 form-sound : Members InForm [] (topMembers form)
 unfolding wellFormed versionName typeName typeBytes reservedName kindOf
-form-sound =
-    (refl, refl, refl, refl, (refl, refl, refl, refl, (refl, refl, refl, refl, tt, tt), (refl, refl, refl, refl, (refl, refl, refl, refl, tt, tt), tt)))
+form-sound = (
+  refl,
+  refl,
+  refl,
+  refl,
+  (
+    refl,
+    refl,
+    refl,
+    refl,
+    (refl, refl, refl, refl, tt, tt),
+    (refl, refl, refl, refl, (refl, refl, refl, refl, tt, tt), tt),
+  ),
+)
 
 prop-sound : Members InProp [] (topMembers prop)
 unfolding wellFormed versionName kindOf
@@ -100,8 +112,12 @@ form-in-cat =
 
 form-in-list : Everywhere InList form pictures
 unfolding wellFormed versionName typeName typeBytes reservedName kindOf noPicture propTypes
-form-in-list =
-    (((refl, refl, refl), refl, form-sound), ((refl, refl, refl), refl, form-sound), ((tt, refl, refl), refl, form-sound), ((tt, refl, refl), refl, form-sound))
+form-in-list = (
+  ((refl, refl, refl), refl, form-sound),
+  ((refl, refl, refl), refl, form-sound),
+  ((tt, refl, refl), refl, form-sound),
+  ((tt, refl, refl), refl, form-sound),
+)
 
 form-after-props : May InList [] (past here) form album
 unfolding wellFormed versionName typeName typeBytes reservedName kindOf noPicture propTypes
@@ -109,8 +125,12 @@ form-after-props = ((refl, refl, refl), refl, form-sound)
 
 prop-in-list : Everywhere InList prop props
 unfolding wellFormed versionName typeName typeBytes reservedName kindOf propTypes
-prop-in-list =
-    (((refl, refl, refl), refl, prop-sound), ((refl, refl, refl), refl, prop-sound), ((refl, refl, refl), refl, prop-sound), ((refl, refl, refl), refl, prop-sound))
+prop-in-list = (
+  ((refl, refl, refl), refl, prop-sound),
+  ((refl, refl, refl), refl, prop-sound),
+  ((refl, refl, refl), refl, prop-sound),
+  ((refl, refl, refl), refl, prop-sound),
+)
 
 prop-before-form : May InList [] (past here) prop album
 unfolding wellFormed versionName typeName typeBytes reservedName kindOf propTypes

@@ -10,7 +10,8 @@ use Rattle.iff_rules.specs.declared.Position.{Position}
 use Rattle.iff_chunk.specs.Chunks.{Chunks, none, leaf, group, Chunk, aLeaf, aGroup, before, bytes, putWord, word}
 use Rattle.iff_grammar.specs.laws.Words.{word-at}
 use Rattle.iff_grammar.specs.laws.Read.{length-leaf, length-group}
-use Rattle.theorem_additions.specs.Additions.{Boundary, here, past, into, May, insert, boundaryPlace, around, grow, growAll, splice, bytesOf}
+use Rattle.theorem_additions.specs.Additions.{Boundary, here, past, into, May, insert, boundaryPlace, around, grow, growAll, splice}
+use Rattle.theorem_additions.specs.Additions.{bytesOf}
 
 -- the boundary is one of these chunks
 abbrev pub At : Boundary → Chunks → Type 0

@@ -12,7 +12,8 @@ use Rattle.iff_name.specs.Name.{pick}
 use Rattle.iff_chunk.specs.Chunks.{Chunk}
 use Rattle.iff_tree.specs.Judge.{Found, found, readFile, refused}
 use Rattle.ilbm_spec.specs.declared.BitmapHeader.{BitmapHeader}
-use Rattle.ilbm_spec.specs.Contents.{Located, Property, own, shared, absent, Content, contentsOf, movedLocated, movedProperty, movedBodies, movedContent}
+use Rattle.ilbm_spec.specs.Contents.{Located, Property, own, shared, absent, Content, contentsOf, movedLocated, movedProperty}
+use Rattle.ilbm_spec.specs.Contents.{movedBodies, movedContent}
 use Rattle.ilbm_spec.specs.Pictures.{dataOf, counts, headerIn, wrongSize, pictureRefusal, Viewed, judged, pickContent, viewIn, viewOf}
 use Rattle.ilbm_spec.specs.Pictures.{originOf, pictureFrom, pictureAnswer, paletteFrom}
 use Rattle.ilbm_spec.specs.Palette.{answerIn, extentOf, extentFrom, extentIn}

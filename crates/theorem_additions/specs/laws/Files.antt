@@ -10,7 +10,8 @@ use Rattle.iff_rules.specs.declared.Position.the-variants.{Outermost}
 use Rattle.iff_chunk.specs.Chunks.{Chunks, none, group, Chunk, aLeaf, aGroup, before, bytes}
 use Rattle.iff_grammar.specs.Grammar.{height, ChunkFile}
 use Rattle.iff_grammar.specs.laws.Names.{section-group}
-use Rattle.theorem_additions.specs.Additions.{Boundary, into, Addition, chunk, trailing, insert, boundaryPlace, around, growAll, splice, bytesOf}
+use Rattle.theorem_additions.specs.Additions.{Boundary, into, Addition, chunk, trailing, insert, boundaryPlace, around, growAll}
+use Rattle.theorem_additions.specs.Additions.{splice, bytesOf}
 use Rattle.theorem_additions.specs.Additions.{treeWith, fileWith, MayAdd}
 use Rattle.theorem_additions.specs.laws.Insert.{no, insert-members}
 use Rattle.theorem_additions.specs.laws.Bytes.{may-at, inserted}
@@ -22,7 +23,8 @@ outermost-group s n d p R f =
     let h = f .tree .1 in
     no cc
 
-whole-after : (i : Boundary) (X : Chunk) (n t : ℕ) (G : Chunks) (f R : List ℕ) → ChunkFile f (aGroup n t G) R → MayAdd (chunk i X) (aGroup n t G) f
+whole-after : (i : Boundary) (X : Chunk) (n t : ℕ) (G : Chunks) (f R : List ℕ) → ChunkFile f (aGroup n t G) R →
+    MayAdd (chunk i X) (aGroup n t G) f
     → fileWith (chunk i X) (aGroup n t G) f ≡ bytes (group n t (insert i X G) none) ++ R
 unfolding boundaryPlace around insert
 whole-after i X n t G f R c h =

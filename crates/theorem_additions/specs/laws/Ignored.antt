@@ -25,7 +25,8 @@ unfolding kindOf
 filler-foreign n h =
     go (eqb n Codes.FORM) (eqb n Codes.LIST) (eqb n Codes.CAT) (eqb n Codes.PROP) (eqb n Codes.FILLER) refl h
   where
-    go : (a b c d e : Bool) → eqb n Codes.FILLER ≡ e → pick a FORM (pick b LIST (pick c CAT (pick d PROP (pick e FILLER LOCAL)))) ≡ FILLER → foreign n ≡ true
+    go : (a b c d e : Bool) → eqb n Codes.FILLER ≡ e →
+        pick a FORM (pick b LIST (pick c CAT (pick d PROP (pick e FILLER LOCAL)))) ≡ FILLER → foreign n ≡ true
     go true b c d e x k = no cc
     go false true c d e x k = no cc
     go false false true d e x k = no cc

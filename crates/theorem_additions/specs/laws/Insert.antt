@@ -16,7 +16,8 @@ use Rattle.iff_chunk.specs.Chunks.{Chunks, none, leaf, group, Chunk, aLeaf, aGr
 use Rattle.iff_rules.specs.Rules.{isGroup, allowed, inCat, inList, inside, after, groupType}
 use Rattle.iff_grammar.specs.Grammar.{member, newProp, seenAfter, Members}
 use Rattle.ilbm_spec.specs.laws.Ignored.{either-false}
-use Rattle.theorem_additions.specs.Additions.{Boundary, here, past, into, propTypes, LocalMay, FillerMay, LeafMay, FormMay, PropMay, GroupMay, May, insert}
+use Rattle.theorem_additions.specs.Additions.{Boundary, here, past, into, propTypes, LocalMay, FillerMay, LeafMay, FormMay, PropMay}
+use Rattle.theorem_additions.specs.Additions.{GroupMay, May, insert}
 
 pub no : {A : Type 0} → _≡_ {A = ℕ} 0 1 → A
 no e = absurd (omega arith)
@@ -87,7 +88,8 @@ more-seen (group n t G F) w old new h m = go (kindOf n) h m (λ v l r i j. more-
   where
     go : (k : Kind) → ((u : ℕ) → member u (seenAfter k t (propTypes F)) ≡ true → member u old ≡ false → member u new ≡ false)
         → GroupRow k w old t G F
-        → ((v : Position) (l r : List ℕ) → ((u : ℕ) → member u (propTypes F) ≡ true → member u l ≡ false → member u r ≡ false) → Members v l F → Members v r F)
+        → ((v : Position) (l r : List ℕ) → ((u : ℕ) → member u (propTypes F) ≡ true → member u l ≡ false → member u r ≡ false) →
+        Members v l F → Members v r F)
         → GroupRow k w new t G F
     go FORM i r on = (r .0, r .1, r .2, refl, r .4, on (after w FORM) old new i (r .5))
     go LIST i r on = (r .0, r .1, r .2, refl, r .4, on (after w LIST) old new i (r .5))
@@ -109,7 +111,8 @@ more-seen (group n t G F) w old new h m = go (kindOf n) h m (λ v l r i j. more-
     go FILLER i r on = (r .0, r .1, r .2, refl, r .4, on (after w FILLER) old new i (r .5))
     go LOCAL i r on = (r .0, r .1, r .2, refl, r .4, on (after w LOCAL) old new i (r .5))
 
-form-may : (w : Position) (seen : List ℕ) (F : Chunks) → FormMay w F → Members w seen F → (allowed w FORM ≡ true) × Members (after w FORM) seen F
+form-may : (w : Position) (seen : List ℕ) (F : Chunks) → FormMay w F → Members w seen F → (allowed w FORM ≡ true) ×
+    Members (after w FORM) seen F
 form-may Outermost seen F h m = absurd h
 form-may InForm seen F h m = (refl, m)
 form-may InProp seen F h m = absurd h
@@ -141,7 +144,8 @@ new-group PROP w seen t G F h g i m = let a = prop-may w seen t F h m in (refl, 
 new-group FILLER w seen t G F h g i m = absurd h
 new-group LOCAL w seen t G F h g i m = absurd h
 
-pub insert-members : (i : Boundary) (X : Chunk) (F : Chunks) (w : Position) (seen : List ℕ) → May w seen i X F → Members w seen F → Members w seen (insert i X F)
+pub insert-members : (i : Boundary) (X : Chunk) (F : Chunks) (w : Position) (seen : List ℕ) → May w seen i X F → Members w seen F →
+    Members w seen (insert i X F)
 unfolding insert
 insert-members here (aLeaf n d p) F w seen h m = let l = leaf-may (kindOf n) w n (h .1) in (h .0, l .0, l .1, h .2, m)
 insert-members here (aGroup n t G) F w seen h m = new-group (kindOf n) w seen t G F (h .0) (h .1) (h .2) m

@@ -12,12 +12,15 @@ use Rattle.iff_name.specs.Name.{either}
 use Rattle.iff_chunk.specs.Chunks.{Chunks, none, leaf, group, Chunk, aLeaf, aGroup, before, bytes}
 use Rattle.iff_grammar.specs.Grammar.{member, ChunkFile}
 use Rattle.iff_grammar.specs.laws.Read.{length-leaf, length-group}
-use Rattle.theorem_additions.specs.Additions.{Boundary, here, past, into, Addition, chunk, trailing, insert, boundaryPlace, bytesOf, topMembers, added, addedAt}
-use Rattle.theorem_additions.specs.Additions.{treeWith, fileWith, MayAdd, treeAfter, MayAddAll, moved, movedBy, headersFrom, newHeaders, mapℕ, addedHeaders}
+use Rattle.theorem_additions.specs.Additions.{Boundary, here, past, into, Addition, chunk, trailing, insert, boundaryPlace, bytesOf}
+use Rattle.theorem_additions.specs.Additions.{topMembers, added, addedAt}
+use Rattle.theorem_additions.specs.Additions.{treeWith, fileWith, MayAdd, treeAfter, MayAddAll, moved, movedBy, headersFrom}
+use Rattle.theorem_additions.specs.Additions.{newHeaders, mapℕ, addedHeaders}
 use Rattle.theorem_additions.specs.laws.Insert.{no, either-right}
 use Rattle.theorem_additions.specs.laws.Bytes.{At, may-at, length-insert}
 use Rattle.theorem_additions.specs.laws.Files.{outermost-group, file-with}
-use Rattle.theorem_additions.specs.laws.Answers.{Carries, carries-part, carries-first, carries-before, carries-after, moved-before, place-low, place-high}
+use Rattle.theorem_additions.specs.laws.Answers.{Carries, carries-part, carries-first, carries-before, carries-after, moved-before}
+use Rattle.theorem_additions.specs.laws.Answers.{place-low, place-high}
 
 pub either-cases : {P : Type 0} (a b : Bool) → either a b ≡ true → (a ≡ true → P) → (b ≡ true → P) → P
 either-cases true b e f g = f refl
@@ -69,11 +72,13 @@ group-first m p n t G F e = either-left (eqb p m) _ (eq-eqb p m e)
 
 group-inner : (m p n t : ℕ) (G F : Chunks) → HeaderAt m (p + 12) G → HeaderAt m p (group n t G F)
 unfolding headersFrom
-group-inner m p n t G F h = either-right (eqb p m) _ (member-append m (headersFrom (p + 12) G) _ ∙ either-left (member m (headersFrom (p + 12) G)) _ h)
+group-inner m p n t G F h = either-right (eqb p m) _ (member-append m (headersFrom (p + 12) G) _ ∙
+    either-left (member m (headersFrom (p + 12) G)) _ h)
 
 group-rest : (m p n t : ℕ) (G F : Chunks) → HeaderAt m (p + (12 + length (bytes G))) F → HeaderAt m p (group n t G F)
 unfolding headersFrom
-group-rest m p n t G F h = either-right (eqb p m) _ (member-append m (headersFrom (p + 12) G) _ ∙ either-right (member m (headersFrom (p + 12) G)) _ h)
+group-rest m p n t G F h = either-right (eqb p m) _ (member-append m (headersFrom (p + 12) G) _ ∙
+    either-right (member m (headersFrom (p + 12) G)) _ h)
 
 pub header-low : (F : Chunks) (m p : ℕ) → HeaderAt m p F → p ≤ m
 header-low none m p h = none-case m p h
@@ -115,7 +120,8 @@ header-carried (group n t G F) move m p p′ c h =
     (λ r. group-rest _ p′ n t G F (header-carried F move m _ _ (carries-part move p p′ _ (12 + length (bytes G)) _ (omega arith) c) r))
 
 -- a header that was there is there still
-header-kept : (i : Boundary) (X : Chunk) (F : Chunks) (m p : ℕ) → At i F → HeaderAt m p F → HeaderAt (moved (boundaryPlace i p F) (length (bytesOf X)) m) p (insert i X F)
+header-kept : (i : Boundary) (X : Chunk) (F : Chunks) (m p : ℕ) → At i F → HeaderAt m p F →
+    HeaderAt (moved (boundaryPlace i p F) (length (bytesOf X)) m) p (insert i X F)
 unfolding insert boundaryPlace bytes
 header-kept here (aLeaf n d pd) F m p a h =
     let len = length-leaf n d pd none in
@@ -130,7 +136,8 @@ header-kept here (aGroup n t G) F m p a h =
 header-kept (past i) X none m p a h = absurd a
 header-kept (past i) X (leaf n d pd F) m p a h =
     let low = place-low i F (p + (8 + length d + length pd)) in
-    leaf-cases m p n d pd F h (λ e. leaf-first _ p n d pd _ (e ∙ sym (moved-before _ _ m (omega arith)))) (λ r. leaf-rest _ p n d pd _ (header-kept i X F m _ a r))
+    leaf-cases m p n d pd F h (λ e. leaf-first _ p n d pd _ (e ∙
+    sym (moved-before _ _ m (omega arith)))) (λ r. leaf-rest _ p n d pd _ (header-kept i X F m _ a r))
 header-kept (past i) X (group n t G F) m p a h =
     let q : ℕ = boundaryPlace i (p + (12 + length (bytes G))) F in
     let k : ℕ = length (bytesOf X) in
@@ -151,7 +158,8 @@ header-kept (into i) X (group n t G F) m p a h =
     (carries-after (boundaryPlace i (p + 12) G) (length (bytesOf X)) (p + (12 + length (bytes G))) (p + (12 + length (bytes (insert i X G)))) _ (omega arith) (omega arith)) r))
 
 -- a header of what was added is there
-header-new : (i : Boundary) (X : Chunk) (F : Chunks) (m p : ℕ) → At i F → HeaderAt m (boundaryPlace i p F) (before X none) → HeaderAt m p (insert i X F)
+header-new : (i : Boundary) (X : Chunk) (F : Chunks) (m p : ℕ) → At i F → HeaderAt m (boundaryPlace i p F) (before X none) →
+    HeaderAt m p (insert i X F)
 unfolding insert boundaryPlace
 header-new here (aLeaf n d pd) F m p a h = leaf-cases m p n d pd none h (λ e. leaf-first m p n d pd F e) (λ r. none-case m _ r)
 header-new here (aGroup n t G) F m p a h =
@@ -178,7 +186,8 @@ inner-kept (trailing k xs) (aGroup n t G) f R m g h r =
     let same = moved-before (length (bytesOf (aGroup n t G)) + k) (length xs) m (omega arith) in
     subst (λ (q : ℕ). HeaderAt q 12 G) (sym same) r
 
-inner-new : (a : Addition) (c : Chunk) (f R : List ℕ) (m : ℕ) → ChunkFile f c R → MayAdd a c f → member m (newHeaders a c) ≡ true → InnerAt m (treeWith a c)
+inner-new : (a : Addition) (c : Chunk) (f R : List ℕ) (m : ℕ) → ChunkFile f c R → MayAdd a c f → member m (newHeaders a c) ≡ true →
+    InnerAt m (treeWith a c)
 inner-new (chunk i X) (aLeaf n d p) f R m g h r = outermost-group f n d p R g
 inner-new (chunk i X) (aGroup n t G) f R m g h r = header-new i X G m 12 (may-at i X G _ [] h) r
 inner-new (trailing k xs) c f R m g h r = no cc

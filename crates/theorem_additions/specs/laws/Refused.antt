@@ -19,7 +19,8 @@ use Rattle.iff_header.specs.Checks.{headerOf}
 use Rattle.iff_tree.specs.Judge.{Found, found, refused, run, chunkAt, readFile, verdictOf}
 use Rattle.iff_grammar.specs.Grammar.{seenAfter, Members, height, ChunkFile}
 use Rattle.iff_grammar.specs.laws.Words.{drop-slice, slice-at}
-use Rattle.iff_grammar.specs.laws.Read.{leaf-name, leaf-size, leaf-next, leaf-rest, length-leaf, length-group, group-name, group-size, group-type, group-members, group-next, group-rest, group-fits}
+use Rattle.iff_grammar.specs.laws.Read.{leaf-name, leaf-size, leaf-next, leaf-rest, length-leaf, length-group, group-name, group-size}
+use Rattle.iff_grammar.specs.laws.Read.{group-type, group-members, group-next, group-rest, group-fits}
 use Rattle.iff_grammar.specs.laws.Names.{members-regular, name-parts, group-chunk-name, after-leaf, seen-leaf}
 use Rattle.iff_grammar.specs.laws.Props.{Seen, seen-start, seen-step}
 use Rattle.iff_grammar.specs.laws.Headers.{header-leaf, header-group, new-second}
@@ -51,18 +52,21 @@ unfolding chunkAt
 leaf-found zero s from w p e z h = rw h
 leaf-found (suc levels) s from w p e z h = rw h
 
-bad-found : (levels : ℕ) (s : List ℕ) (from : ℕ) (w : Position) (p e k : ℕ) → headerOf levels s from w p e ≡ Header-refused k → chunkAt levels s from w p e ≡ refused k p
+bad-found : (levels : ℕ) (s : List ℕ) (from : ℕ) (w : Position) (p e k : ℕ) → headerOf levels s from w p e ≡ Header-refused k →
+    chunkAt levels s from w p e ≡ refused k p
 unfolding chunkAt
 bad-found zero s from w p e k h = rw h
 bad-found (suc levels) s from w p e k h = rw h
 
-group-stops : (levels : ℕ) (s : List ℕ) (from : ℕ) (w : Position) (p e : ℕ) (k : Kind) (z n m : ℕ) → headerOf (suc levels) s from w p e ≡ Group k z
+group-stops : (levels : ℕ) (s : List ℕ) (from : ℕ) (w : Position) (p e : ℕ) (k : Kind) (z n m : ℕ) →
+    headerOf (suc levels) s from w p e ≡ Group k z
     → run (chunkAt levels s (p + 12)) s (p + 8 + z - (p + 12)) (inside k) (p + 12) (p + 8 + z) ≡ refused n m
     → chunkAt (suc levels) s from w p e ≡ refused n m
 unfolding chunkAt
 group-stops levels s from w p e k z n m h r = rw (h, r)
 
-version-header : (levels : ℕ) (s : List ℕ) (from : ℕ) (w : Position) (p e : ℕ) → p + 8 ≤ e → versionName (word s p) ≡ true → headerOf levels s from w p e ≡ Header-refused 3
+version-header : (levels : ℕ) (s : List ℕ) (from : ℕ) (w : Position) (p e : ℕ) → p + 8 ≤ e → versionName (word s p) ≡ true →
+    headerOf levels s from w p e ≡ Header-refused 3
 unfolding headerOf
 version-header levels s from w p e h v = rw (le-ltb (e - p) 8 (omega arith), version-formed (word s p) v, v)
 
@@ -89,7 +93,10 @@ module _ (s g : List ℕ) (m : ℕ) (same : take m g ≡ take m s) (version : ve
       let name : word g p ≡ n = same-word s g m p same (omega arith) ∙ group-name s p n t G F R r short at in
       let size : word g (p + 4) ≡ 4 + length (bytes G) = same-word s g m (p + 4) same (omega arith) ∙ group-size s p n t G F R r short at in
       let type : word g (p + 8) ≡ t = same-word s g m (p + 8) same (omega arith) ∙ group-type s p n t G F R r short at in
-      let next : nextAt g p ≡ p + 12 + length (bytes G) = rw (size, ← group-size s p n t G F R r short at) (group-next s p n t G F R r short at) in
+      let next : nextAt g p ≡ p + 12 + length (bytes G) = rw (
+        size,
+        ← group-size s p n t G F R r short at,
+      ) (group-next s p n t G F R r short at) in
       let four : 4 ≤ word g (p + 4) = omega arith in
       let first : secondProp (kindOf n) g from p t ≡ false = not-true _ (sym (new-second (kindOf n) g from p t seen h) ∙ x .3) in
       header-group levels g from w p e (rw name (group-chunk-name n (x .0))) (rw name (x .1)) (rw next fit) (rw name (x .0)) four (rw (name, type) (x .2)) (rw (name, type) first)
@@ -100,7 +107,8 @@ module _ (s g : List ℕ) (m : ℕ) (same : take m g ≡ take m s) (version : ve
       (levels from : ℕ) (w : Position) (p e fuel : ℕ) (seen : List ℕ) (n t : ℕ) (G F : Chunks) (R : List ℕ) →
       Members w seen (group n t G F) → height G ≤ levels → drop p s ≡ bytes (group n t G F) ++ R → p + (12 + length (bytes G)) ≤ m →
       Seen g from p seen → p + (12 + length (bytes G)) ≤ e →
-      (Members (after w (kindOf n)) (seenAfter (kindOf n) t seen) F → Seen g from (p + (12 + length (bytes G))) (seenAfter (kindOf n) t seen)
+      (Members (after w (kindOf n)) (seenAfter (kindOf n) t seen) F →
+      Seen g from (p + (12 + length (bytes G))) (seenAfter (kindOf n) t seen)
       → run (chunkAt (suc levels) g from) g fuel (after w (kindOf n)) (p + (12 + length (bytes G))) e ≡ refused 3 m) →
       run (chunkAt (suc levels) g from) g (suc fuel) w p e ≡ refused 3 m
   unfolding bytes
@@ -148,7 +156,8 @@ module _ (s g : List ℕ) (m : ℕ) (same : take m g ≡ take m s) (version : ve
       let head = header-leaf levels g from w p e (rw name (x .0)) (rw name (x .2)) (rw next (omega arith)) (rw name (x .1)) in
       let one = leaf-found levels g from w p e (word g (p + 4)) head in
       let pos : after w (kindOf (word g p)) ≡ w = rw name (after-leaf w (kindOf n) (x .1)) in
-      let same-seen : seenAfter (kindOf (word g p)) (word g (p + 8)) seen ≡ seen = rw name (seen-leaf (kindOf n) (word g (p + 8)) seen (x .1)) in
+      let same-seen : seenAfter (kindOf (word g p)) (word g (p + 8)) seen ≡ seen =
+      rw name (seen-leaf (kindOf n) (word g (p + 8)) seen (x .1)) in
       let on : Seen g from q seen = subst₂ (λ (j : ℕ) (u : List ℕ). Seen g from j u) next same-seen (seen-step g from p seen h) in
       let next′ : nextAt s p ≡ q = leaf-next s p n d pd F R r short at ∙ omega arith in
       let rest : drop q s ≡ bytes F ++ R = subst (λ (j : ℕ). drop j s ≡ bytes F ++ R) next′ (leaf-rest s p n d pd F R r short at) in
@@ -178,7 +187,8 @@ module _ (s g : List ℕ) (m : ℕ) (same : take m g ≡ take m s) (version : ve
       let rest : drop q s ≡ bytes F ++ R = subst (λ (j : ℕ). drop j s ≡ bytes F ++ R) next′ (group-rest s p n t G F R r short at) in
       run-refused F (suc levels) from (after w (kindOf n)) q e fuel (seenAfter (kindOf n) t seen) R x′ (omega arith) rest (omega arith) (omega arith) on i))
 
-  pub file-refused : (n t : ℕ) (G : Chunks) (R : List ℕ) → ChunkFile s (aGroup n t G) R → HeaderAt m 12 G → length g ≡ length s → readFile g ≡ refused 3 m
+  pub file-refused : (n t : ℕ) (G : Chunks) (R : List ℕ) → ChunkFile s (aGroup n t G) R → HeaderAt m 12 G → length g ≡ length s →
+      readFile g ≡ refused 3 m
   unfolding readFile
   file-refused n t G R f k same-length =
       let x = f .tree in

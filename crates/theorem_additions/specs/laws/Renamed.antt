@@ -86,7 +86,8 @@ pub record Marked (F : Chunks) (f g : List ℕ) (m : ℕ) : Type 0 where
   pub header : HeaderAt m 12 F
 
 module _ (F : Chunks) (f : List ℕ) (fit : (m : ℕ) → HeaderAt m 12 F → m + 4 ≤ length f) where
-  mark-new : (g : List ℕ) (r : Renaming) → versionName (r .name) ≡ true → HeaderAt (r .place) 12 F → length g ≡ length f → take (r .place) g ≡ take (r .place) f
+  mark-new : (g : List ℕ) (r : Renaming) → versionName (r .name) ≡ true → HeaderAt (r .place) 12 F → length g ≡ length f →
+      take (r .place) g ≡ take (r .place) f
       → Marked F f (put (r .place) (r .name) g) (r .place)
   mark-new g r v h l e =
       let fits = fit (r .place) h in

@@ -39,8 +39,12 @@ module _ (compression n : ℕ) (line : List ℕ) where
       let one : body ≡ pre ++ (row ++ (more ++ rest)) = rw (append-assoc row more rest) in
       let two : body ≡ (pre ++ row) ++ (more ++ rest) = one ∙ sym (append-assoc pre row (more ++ rest)) in
       let at : length (pre ++ row) ≡ length pre + length row = length-append pre row in
-      let first : rowOf compression body (length pre) n ≡ filled (planeRow weight line 0 n) (length pre + length row) = rw one (one-row weight pre (more ++ rest)) in
-      let others : rowsFrom compression body n rows (length pre + length row) ≡ found ((planeRows n line (weight * 2) rows), (length pre + length row + length more)) =
+      let first : rowOf compression body (length pre) n ≡ filled (planeRow weight line 0 n) (length pre + length row) =
+      rw one (one-row weight pre (more ++ rest)) in
+      let others : rowsFrom compression body n rows (length pre + length row) ≡ found (
+        (planeRows n line (weight * 2) rows),
+        (length pre + length row + length more),
+      ) =
       rw (two, ← at) (rows-back rows (weight * 2) (pre ++ row) rest) in
       let ends : length pre + length row + length more ≡ length pre + length (row ++ more) = rw length-append (omega arith) in
       rw (first, others, ends)
@@ -52,17 +56,29 @@ module _ (b : BitmapHeader) (plain : eqb (b .masking) 1 ≡ false) where
 
   line-back :
       (line pre rest : List ℕ) → length line ≡ b .w → Below (2 ^ b .planes) line →
-      lineBy (b .compression) (b .w) (b .planes) rows (pre ++ (lineBytes b line ++ rest)) (length pre) ≡ found (line, (length pre + length (lineBytes b line)))
+      lineBy (b .compression) (b .w) (b .planes) rows (pre ++ (lineBytes b line ++ rest)) (length pre) ≡ found (
+        line,
+        (length pre + length (lineBytes b line)),
+      )
   line-back line pre rest e u =
       let n : ℕ = rowLength (b .w) in
       let made : List (List ℕ) = planeRows n line 1 (b .planes) in
       let count : length made ≡ b .planes = rows-count n line 1 (b .planes) in
       let all : take (b .planes) made ≡ made = take-all (b .planes) made (omega arith) in
-      rw (plain, add-zero (b .planes), rows-back (b .compression) n line (b .planes) 1 pre rest, all, colours-back (b .w) (b .planes) line e u)
+      rw (
+        plain,
+        add-zero (b .planes),
+        rows-back (b .compression) n line (b .planes) 1 pre rest,
+        all,
+        colours-back (b .w) (b .planes) line e u,
+      )
 
   pub lines-back :
       (lines : ℕ) (frame pre rest : List ℕ) → length frame ≡ lines * b .w → Below (2 ^ b .planes) frame →
-      linesBy (b .compression) (b .w) (b .planes) rows (pre ++ (bodyLines b frame lines ++ rest)) lines (length pre) ≡ found (frame, (length pre + length (bodyLines b frame lines)))
+      linesBy (b .compression) (b .w) (b .planes) rows (pre ++ (bodyLines b frame lines ++ rest)) lines (length pre) ≡ found (
+        frame,
+        (length pre + length (bodyLines b frame lines)),
+      )
   unfolding linesBy bodyLines
   lines-back zero [] pre rest e u = rw (add-zero (length pre))
   lines-back zero (c ∷ cs) pre rest e u = absurd (omega arith)
@@ -78,7 +94,10 @@ module _ (b : BitmapHeader) (plain : eqb (b .masking) 1 ≡ false) where
       let first : lineBy (b .compression) (b .w) (b .planes) rows body (length pre) ≡ found ((take w frame), (length pre + length head)) =
       rw one (line-back (take w frame) pre (more ++ rest) (length-take-le w frame (omega arith)) (below-take (2 ^ b .planes) w frame u)) in
       let left : length (drop w frame) ≡ lines * w = rw length-drop (omega arith) in
-      let others : linesBy (b .compression) (b .w) (b .planes) rows body lines (length pre + length head) ≡ found ((drop w frame), (length pre + length head + length more)) =
+      let others : linesBy (b .compression) (b .w) (b .planes) rows body lines (length pre + length head) ≡ found (
+        (drop w frame),
+        (length pre + length head + length more),
+      ) =
       rw (two, ← at) (lines-back lines (drop w frame) (pre ++ head) rest left (below-drop (2 ^ b .planes) w frame u)) in
       let ends : length pre + length head + length more ≡ length pre + length (head ++ more) = rw length-append (omega arith) in
       rw (first, others, take-append-drop w frame, ends)

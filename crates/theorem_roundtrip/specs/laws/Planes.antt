@@ -80,7 +80,8 @@ byte-bit weight line j r l =
 pub bit-back : (weight : ℕ) (line : List ℕ) (n x : ℕ) → x / 8 < n → bitAt (planeRow weight line 0 n) x ≡ planeBit weight line x
 bit-back weight line n x h =
     let at : 8 * (x / 8) + x % 8 ≡ x = omega arith in
-    let e : getD (planeRow weight line 0 n) (x / 8) 0 ≡ planeByte weight line (x / 8) = row-byte weight line 0 n (x / 8) h ∙ ap (λ (m : ℕ). planeByte weight line m) (zero-add (x / 8)) in
+    let e : getD (planeRow weight line 0 n) (x / 8) 0 ≡ planeByte weight line (x / 8) = row-byte weight line 0 n (x / 8) h ∙
+    ap (λ (m : ℕ). planeByte weight line m) (zero-add (x / 8)) in
     rw e (byte-bit weight line (x / 8) (x % 8) (omega arith) ∙ ap (λ (m : ℕ). planeBit weight line m) at)
 
 -- ---- all planes of a line
@@ -154,7 +155,8 @@ colours-from planes line n f b (suc count) x e =
 
 -- the colour numbers of a line
 pub colours-back :
-    (w planes : ℕ) (line : List ℕ) → length line ≡ w → Below (2 ^ planes) line → coloursFrom 0 w (planeRows (rowLength w) line 1 planes) ≡ line
+    (w planes : ℕ) (line : List ℕ) → length line ≡ w → Below (2 ^ planes) line →
+    coloursFrom 0 w (planeRows (rowLength w) line 1 planes) ≡ line
 colours-back w planes line e b = colours-from planes line (rowLength w) (omega arith) b w 0 (omega arith)
 
 -- "row bits from w on are 0"

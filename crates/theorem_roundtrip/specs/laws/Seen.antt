@@ -8,7 +8,8 @@ use borrow.Author.Tests.{eq-eqb}
 use Rattle.iff_chunk.specs.Chunks.{word}
 use Rattle.ilbm_spec.specs.declared.BitmapHeader.{BitmapHeader}
 use Rattle.ilbm_spec.specs.Contents.{located, lastNamed, propertyOf, bodiesFrom, Property, own, absent, Content, contentsFrom, contentsOf}
-use Rattle.ilbm_spec.specs.Pictures.{headerIn, hotSpotIn, destinationIn, originOf, sizeNotTriples, wrongSize, headerRefusal, pictureRefusal, pictureFrom, paletteFrom}
+use Rattle.ilbm_spec.specs.Pictures.{headerIn, hotSpotIn, destinationIn, originOf, sizeNotTriples, wrongSize, headerRefusal}
+use Rattle.ilbm_spec.specs.Pictures.{pictureRefusal, pictureFrom, paletteFrom}
 use Rattle.write_body.specs.Body.{bodyBytes}
 use Rattle.write_form.specs.File.{headerBytes, padOf, pictureForm}
 use Rattle.theorem_roundtrip.specs.Header.{InRange}
@@ -51,7 +52,8 @@ palette-origin : (p : ℕ) (palette : List ℕ) → originOf (paletteProperty p 
 palette-origin p [] = refl
 palette-origin p (x ∷ xs) = refl
 
-pub picture-answered : (b : BitmapHeader) (palette frame : List ℕ) → InRange b → pictureFrom (contentFor b palette frame) ≡ pictureFor b palette
+pub picture-answered : (b : BitmapHeader) (palette frame : List ℕ) → InRange b →
+    pictureFrom (contentFor b palette frame) ≡ pictureFor b palette
 unfolding pictureFrom hotSpotIn destinationIn word
 picture-answered b palette frame r = rw (header-back b r, palette-origin (cmapPlace b) palette)
 

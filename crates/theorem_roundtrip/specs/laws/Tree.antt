@@ -56,4 +56,5 @@ module _ (b : BitmapHeader) (palette frame : List ℕ) (short : length (pictureF
 
   pub file-answered : checkOf (pictureFile b palette frame) ≡ Accepted (chunksFor palette) (length (pictureFile b palette frame)) 0
   unfolding pictureFile
-  file-answered = ends (pictureFile b palette frame) (pictureForm b palette frame) [] chunk-file .1 ∙ ap (λ (k : ℕ). Accepted k (length (pictureFile b palette frame)) 0) (form-count b palette frame)
+  file-answered = ends (pictureFile b palette frame) (pictureForm b palette frame) [] chunk-file .1 ∙
+      ap (λ (k : ℕ). Accepted k (length (pictureFile b palette frame)) 0) (form-count b palette frame)

@@ -44,7 +44,8 @@ below-all most (c ∷ cs) e =
 
 module _ (b : BitmapHeader) (palette frame : List ℕ) (room n : ℕ) where
   right-fields :
-      wrongFields b (length palette) (length frame) ≡ false → colourOver (2 ^ b .planes) frame ≡ false → length (pictureFile b palette frame) ≤ 16777216 →
+      wrongFields b (length palette) (length frame) ≡ false → colourOver (2 ^ b .planes) frame ≡ false →
+      length (pictureFile b palette frame) ≤ 16777216 →
       length (pictureFile b palette frame) ≤ room → length (pictureFile b palette frame) ≡ n → Writable b palette frame room n
   unfolding wrongFields
   right-fields e c s f z =
