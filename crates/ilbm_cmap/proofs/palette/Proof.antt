@@ -49,10 +49,13 @@ use Rattle.ilbm_cmap.proofs.Colours as C
 use Rattle.ilbm_cmap.proofs.Colours.Laws as C′
 use Rattle.ilbm_cmap.proofs.colours_of as colours
 use Rattle.ilbm_cmap.proofs.colours_of.Symbol as colours-def
+use Rattle.ilbm_cmap.proofs.colours_of.Symbol.{name as #ilbm-cmap·colours-of}
 use Rattle.ilbm_cmap.proofs.colours_of.Met as colours-thm
 use Rattle.ilbm_cmap.proofs.part_or as part-or
 use Rattle.ilbm_cmap.proofs.part_or.Symbol as part-or-def
+use Rattle.ilbm_cmap.proofs.part_or.Symbol.{name as #ilbm-cmap·part-or}
 use Rattle.ilbm_cmap.proofs.part_or.Met as part-or-thm
+use Rattle.ilbm_cmap.proofs.palette.Key.{name as #ilbm-cmap·palette}
 use Rattle.ilbm_cmap.proofs.palette as palette
 use Rattle.ilbm_cmap.proofs.palette.Statement as stated
 use Rattle.ilbm_cmap.proofs.palette.Code as code
