@@ -22,17 +22,23 @@ paste-put out src at n e =
     let t : take n src ≡ src = take-all n src (omega arith) in
     rw (append-assoc (take at out) (take n src) (drop (at + n) out), t, e)
 
-pub head-put : (name size at : ℕ) (out after head : List ℕ) → head ≡ chunkHead name size → after ≡ paste out at head 8 → after ≡ put out at (chunkHead name size)
-head-put name size at out after head e d = d ∙ rw e (paste-put out (chunkHead name size) at 8 refl)
+pub word-put : (v at : ℕ) (out after word : List ℕ) → word ≡ putWord v [] → after ≡ paste out at word 4 → after ≡ put out at (putWord v [])
+word-put v at out after word e d = d ∙ rw e (paste-put out (putWord v []) at 4 refl)
+
+pub head-put :
+    (name size at : ℕ) (out first after : List ℕ) → at + 8 ≤ length out → first ≡ put out at (putWord name []) →
+    after ≡ put first (at + 4) (putWord size []) → after ≡ put out at (chunkHead name size)
+head-put name size at out first after l d e = e ∙ rw d (put-put out at (putWord name []) (putWord size []) (omega arith))
 
 pub header-put :
-    (b : BitmapHeader) (out middle after head : List ℕ) → 40 ≤ length out → middle ≡ paste out 8 (putWord ILBM (putWord BMHD (putWord 20 []))) 12 →
-    head ≡ headerBytes b → after ≡ paste middle 20 head 20 → after ≡ put out 8 (typeAndHeader b)
-header-put b out middle after head l d e f =
+    (b : BitmapHeader) (out first middle after head : List ℕ) → 40 ≤ length out → first ≡ put out 8 (putWord ILBM []) →
+    middle ≡ put first 12 (chunkHead BMHD 20) → head ≡ headerBytes b → after ≡ paste middle 20 head 20 → after ≡ put out 8 (typeAndHeader b)
+header-put b out first middle after head l d m e f =
     let n = header-length b in
-    let one : middle ≡ put out 8 (putWord ILBM (putWord BMHD (putWord 20 []))) = d ∙ paste-put out (putWord ILBM (putWord BMHD (putWord 20 []))) 8 12 refl in
-    let two : after ≡ put middle 20 (headerBytes b) = f ∙ rw e (paste-put middle (headerBytes b) 20 20 n) in
-    two ∙ rw one (put-put out 8 (putWord ILBM (putWord BMHD (putWord 20 []))) (headerBytes b) (omega arith))
+    let both : middle ≡ put out 8 (putWord ILBM (chunkHead BMHD 20)) =
+    m ∙ rw d (put-put out 8 (putWord ILBM []) (chunkHead BMHD 20) (omega arith)) in
+    let last : after ≡ put middle 20 (headerBytes b) = f ∙ rw e (paste-put middle (headerBytes b) 20 20 n) in
+    last ∙ rw both (put-put out 8 (putWord ILBM (chunkHead BMHD 20)) (headerBytes b) (omega arith))
 
 pub header-is :
     (b : BitmapHeader) (x y pw ph a₁ a₂ a₃ a₄ a₅ a₆ a₇ a₈ a₉ a₁₀ a₁₁ a₁₂ a₁₃ a₁₄ : ℕ) → a₁ ≡ b .w / 256 → a₂ ≡ b .w % 256 → a₃ ≡ b .h / 256 →
@@ -92,4 +98,4 @@ palette-put palette out one two three e h p q r =
     r ∙ rw (second, at) (put-put out 40 (chunkHead CMAP (length palette) ++ palette) (replicate (length palette % 2) 0) (omega arith)) in
     third ∙ ap (λ (l : List ℕ). put out 40 l) (append-assoc (chunkHead CMAP (length palette)) palette (replicate (length palette % 2) 0) ∙ sym (some-chunk palette e))
 
-pub ruleset chunk-laws = (head-put, header-is, header-put, pad-odd, pad-even, no-palette, some-palette, palette-none, palette-put)
+pub ruleset chunk-laws = (word-put, head-put, header-is, header-put, pad-odd, pad-even, no-palette, some-palette, palette-none, palette-put)

@@ -5,7 +5,9 @@ use write_body::body_len;
 use write_body::put_body;
 ghost use mathlib.Core.Path.{_≡_};
 ghost use Prim.Native.Nat.{_+_, _*_, _/_, _%_, _≤_, _<_};
+ghost use mathlib.Core.List.{[]};
 ghost use lib.ListN.{length, replicate};
+ghost use Rattle.iff_chunk.specs.Chunks.{putWord};
 ghost use Rattle.write_body.specs.Body.{bodyBytes};
 ghost use Rattle.write_plane_row.specs.Put.{put, Room};
 ghost use Rattle.write_form.specs.File.{unsigned, headerBytes, pictureFile};
@@ -13,24 +15,24 @@ ghost use Rattle.write_form.specs.Parts.{chunkHead, paletteChunk, typeAn
 
 const FORM: usize = Name::FORM.code as usize;
 
+const ILBM: usize = ilbm_names::ILBM.code as usize;
+
+const BMHD: usize = ilbm_names::BMHD.code as usize;
+
 const CMAP: usize = ilbm_names::CMAP.code as usize;
 
 const BODY: usize = ilbm_names::BODY.code as usize;
 
-// The bytes of a chunk's header.
-fn head_bytes(name: usize, size: usize) -> [u8; 8]
-    requires { ⌜ (name < 4294967296) × (size < 4294967296) ⌝ }
-    ensures { λ r. ⌜ r ≡ chunkHead name size ⌝ }
+// The bytes of a number of 32 bits.
+fn word_bytes(v: usize) -> [u8; 4]
+    requires { ⌜ v < 4294967296 ⌝ }
+    ensures { λ r. ⌜ r ≡ putWord v [] ⌝ }
 {
     [
-        (name / 16777216) as u8,
-        (name / 65536 % 256) as u8,
-        (name / 256 % 256) as u8,
-        (name % 256) as u8,
-        (size / 16777216) as u8,
-        (size / 65536 % 256) as u8,
-        (size / 256 % 256) as u8,
-        (size % 256) as u8,
+        (v / 16777216) as u8,
+        (v / 65536 % 256) as u8,
+        (v / 256 % 256) as u8,
+        (v % 256) as u8,
     ]
 }
 
@@ -89,13 +91,22 @@ fn header_bytes(b: BitmapHeader) -> [u8; 20]
     ]
 }
 
+// Writes a number of 32 bits.
+fn put_word(v: usize, out: &mut [u8], at: usize)
+    requires { ⌜ (v < 4294967296) × (at + 4 ≤ length (now out)) ⌝ }
+    ensures { λ _. ⌜ now (out .exit) ≡ put (now (out .entry)) at (putWord v []) ⌝ }
+{
+    let word = word_bytes(v);
+    byterun_copy::copy_run(&word, 0, out, at, 4);
+}
+
 // Writes the header of a chunk.
 fn put_head(name: usize, size: usize, out: &mut [u8], at: usize)
     requires { ⌜ (name < 4294967296) × (size < 4294967296) × (at + 8 ≤ length (now out)) ⌝ }
     ensures { λ _. ⌜ now (out .exit) ≡ put (now (out .entry)) at (chunkHead name size) ⌝ }
 {
-    let head = head_bytes(name, size);
-    byterun_copy::copy_run(&head, 0, out, at, 8);
+    put_word(name, out, at);
+    put_word(size, out, at + 4);
 }
 
 // Writes the type of the FORM, the header of BMHD and BMHD's data.
@@ -103,9 +114,8 @@ fn put_header(b: BitmapHeader, out: &mut [u8])
     requires { ⌜ 40 ≤ length (now out) ⌝ }
     ensures { λ _. ⌜ now (out .exit) ≡ put (now (out .entry)) 8 (typeAndHeader b) ⌝ }
 {
-    // ILBM, then BMHD and its size
-    let kind = [73u8, 76, 66, 77, 66, 77, 72, 68, 0, 0, 0, 20];
-    byterun_copy::copy_run(&kind, 0, out, 8, 12);
+    put_word(ILBM, out, 8);
+    put_head(BMHD, 20, out, 12);
     let head = header_bytes(b);
     byterun_copy::copy_run(&head, 0, out, 20, 20);
 }

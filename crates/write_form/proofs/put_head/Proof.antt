@@ -1,17 +1,17 @@
--- The eight bytes are copied to their place.
+-- The name is put, and the size behind it.
 use Rattle.write_form.proofs.Chunks.{chunk-laws}
 use borrow.Author.Needs.{needs}
 use Rattle.write_form.proofs.put_head.Statement.{statement}
 use Rattle.write_form.proofs.put_head.Tie as tie
 
-head-bytes-requires : tie.Need-head-bytes-requires
-head-bytes-requires c κs = search needs
+put-word-requires : tie.Need-put-word-requires
+put-word-requires c κs = search needs
 
-slice-aggregate-copy-run : tie.Need-slice-aggregate-copy-run
-slice-aggregate-copy-run c = search needs
+add-put-word : tie.Need-add-put-word
+add-put-word c = search needs
 
-copy-run-requires : tie.Need-copy-run-requires
-copy-run-requires c κs = search needs
+put-word-requires-2 : tie.Need-put-word-requires-2
+put-word-requires-2 c κs = search needs
 
 same-length : tie.Need-same-length
 same-length c = search needs
@@ -20,6 +20,4 @@ returns : tie.Need-returns
 returns c = search (chunk-laws, needs)
 
 pub put-head-spec : {M : Type 1} → statement M
-put-head-spec =
-    tie.close
-    (tie.spec head-bytes-requires slice-aggregate-copy-run copy-run-requires same-length returns)
+put-head-spec = tie.close (tie.spec put-word-requires add-put-word put-word-requires-2 same-length returns)
