@@ -44,6 +44,19 @@ def second_prop():
     return group(b"LIST", b"JJJJ", prop, prop)
 
 
+def two_levels():
+    """The outer PROP has BMHD and CMAP, the inner one only a CMAP; forty pictures of
+    8 by 2 pixels and 4 colours have neither."""
+    fields = [8, 2, 0, 0, 0x200, 0, 0, 0x0A0B, 320, 200]
+    header = chunk(b"BMHD", b"".join(field.to_bytes(2, "big") for field in fields))
+    greys = chunk(b"CMAP", bytes(85 * (n // 3) for n in range(12)))
+    colours = chunk(b"CMAP", b"\0\0\0" b"\xff\0\0" b"\0\xff\0" b"\0\0\xff")
+    rows = (bytes([n, 0, 6 * n, 0, 255 - n, 0, 3 * n, 0]) for n in range(40))
+    pictures = (group(b"FORM", b"ILBM", chunk(b"BODY", row)) for row in rows)
+    inner = group(b"LIST", b"ILBM", group(b"PROP", b"ILBM", colours), *pictures)
+    return group(b"LIST", b"ILBM", group(b"PROP", b"ILBM", header, greys), inner)
+
+
 def accepted(chunks, end, trailing=0):
     return f"answer=0\nplace=0\nchunks={chunks}\nend={end}\ntrailing={trailing}\n"
 
@@ -61,6 +74,7 @@ def main():
         "nested": (nested(), accepted(15, 178, 8)),
         "picture": (picture, accepted(4, len(picture))),
         "second_prop": (second_prop(), "answer=12\nplace=24\n"),
+        "two_levels": (two_levels(), accepted(87, 1236)),
     }
     for name, (file, known) in samples.items():
         listing = run(sample, "list", given=file).decode()

@@ -162,13 +162,15 @@ size_t iff_count_pictures(const uint8_t *file, size_t file_length,
  *
  * Pictures have the numbers from 0 in file order. A property counts if it
  * stands directly in the picture's FORM before the first BODY; of several the
- * last, and if there is none, the last one in the PROP ILBM of the nearest LIST
- * around the FORM that has a PROP ILBM. Each is told with its origin:
+ * last. If there is none, the last one in the PROP ILBM of the nearest LIST
+ * around the FORM whose PROP ILBM has that property: each is looked for by
+ * itself, going outward, so that two may be of different PROPs. Each is told
+ * with its origin:
  */
 enum {
     ILBM_ABSENT = 0, /* no such property counts; its fields are 0 */
     ILBM_OWN = 1,    /* the FORM's own */
-    ILBM_SHARED = 2  /* the PROP's */
+    ILBM_SHARED = 2  /* that of a PROP, which `shared` names */
 };
 
 /*
@@ -179,7 +181,8 @@ enum {
  *   picture            the picture's number
  *   place              out: the place of a refusal
  *   origin             out: one of the origins above; 0 after a refusal
- *   shared             out: where the PROP's header stands; 0 unless shared
+ *   shared             out: where the header of the PROP that has it stands; 0
+ *                      unless shared
  */
 
 /*

@@ -116,7 +116,9 @@ class Origin(enum.IntEnum):
 class Property(NamedTuple):
     """A property: its value, its origin, and the place of the PROP that shares it.
 
-    The fields of an absent one are 0, and so is the place unless it is shared.
+    Each property is looked for by itself: in the FORM, then outward in the PROP ILBM
+    of each LIST around it. The fields of an absent one are 0, and so is the place
+    unless it is shared.
     """
 
     value: object
@@ -299,7 +301,15 @@ def view_mode(file, picture):
 
 
 def palette(file, picture, default=b""):
-    """The CMAP that counts for a picture, or the default; Refused with 20 to 24."""
+    """The CMAP that counts for a picture, or the default; Refused with 20 to 24.
+
+    >>> import pathlib
+    >>> file = pathlib.Path("../../samples/two_levels.iff").read_bytes()
+    >>> palette(file, 39).shared, header(file, 39).shared
+    (84, 12)
+    >>> palette(file, 39).value[3:6].hex()
+    'ff0000'
+    """
     file = bytes(file)
     origin, shared, start, stop = _ilbm_palette(file, len(file), picture)
     value = file[start:stop] if origin else bytes(default)

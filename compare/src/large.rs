@@ -57,6 +57,27 @@ pub fn nested(levels: usize, members: &[u8]) -> Vec<u8> {
     (1..levels).fold(innermost, |inner, level| group([b"LIST", b"CAT ", b"FORM"][level % 3], b"DEEP", &inner))
 }
 
+/// LISTs in each other, as many as have room for a picture inside, each with a
+/// PROP ILBM of so many chunks. The outermost PROP alone has the BMHD, and each
+/// a CMAP before the others.
+pub fn shared_from_afar(chunks: usize) -> Vec<u8> {
+    let picture = group(b"FORM", b"ILBM", &chunk(b"BODY", &[0x80, 0]));
+    (1..LEVELS).rev().fold(picture, |inner, level| {
+        let header = if level == 1 { one_pixel() } else { Vec::new() };
+        let map = chunk(b"CMAP", &[level as u8; 3]);
+        let others = self::header(b"DATA", 0).repeat(chunks);
+        let prop = group(b"PROP", b"ILBM", &[header, map, others].concat());
+        group(b"LIST", b"JJJJ", &[prop, inner].concat())
+    })
+}
+
+/// A BMHD of one pixel in one plane.
+fn one_pixel() -> Vec<u8> {
+    let mut data = [0; 20];
+    (data[1], data[3], data[8]) = (1, 1, 1);
+    chunk(b"BMHD", &data)
+}
+
 /// The file with as many bytes after its end as a file may have at most.
 pub fn filled_up(mut file: Vec<u8>) -> Vec<u8> {
     file.resize(LONGEST_FILE, 0);

@@ -12,6 +12,7 @@ pub mod fixed;
 pub mod large;
 mod later;
 pub mod listings;
+mod origins;
 pub mod plain;
 mod property;
 pub mod shapes;
@@ -40,6 +41,7 @@ pub mod write;
 pub use calls::{Call, CALLS};
 pub use census::Census;
 pub use dump::dump;
+pub use origins::Origins;
 pub use subject::Subject;
 pub use tally::Tally;
 

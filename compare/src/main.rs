@@ -3,7 +3,7 @@
 //! first difference.
 
 use compare::fixed::{examples, variations};
-use compare::{dump, worked, Subject, Tally};
+use compare::{dump, worked, Origins, Subject, Tally};
 use second::generate;
 use second::random::Random;
 use std::process::ExitCode;
@@ -18,19 +18,20 @@ fn main() -> ExitCode {
     let files = words.get(1).copied().unwrap_or(FILES);
     let start = Instant::now();
     let mut tally = Tally::default();
+    let mut origins = Origins::default();
     let compared = compare_examples(&mut tally)
         .and_then(|()| compare_worked(&mut tally))
         .and_then(|()| compare_variations(&mut tally))
-        .and_then(|()| compare_generated(&mut tally, seed, files));
+        .and_then(|()| compare_generated(&mut tally, &mut origins, seed, files));
     if let Err(text) = compared {
         println!("{text}");
         return ExitCode::FAILURE;
     }
     println!("seed {seed}, {files} files, no difference, {:.1} s", start.elapsed().as_secs_f64());
-    print!("{}", tally.text());
-    let missing = tally.missing();
-    if files >= FILES && !missing.is_empty() {
-        println!("never answered: {}", missing.join(" "));
+    print!("{}{}", tally.text(), origins.text());
+    let (missing, rare) = (tally.missing(), origins.rare());
+    if files >= FILES && !(missing.is_empty() && rare.is_empty()) {
+        println!("never answered: {}; a hundred times or less: {}", missing.join(" "), rare.join(", "));
         return ExitCode::FAILURE;
     }
     ExitCode::SUCCESS
@@ -51,24 +52,31 @@ fn compare_examples(tally: &mut Tally) -> Result<(), String> {
 fn compare_worked(tally: &mut Tally) -> Result<(), String> {
     worked::compare()?;
     let mut random = Random::new(0);
-    worked::files().iter().try_for_each(|file| compare_file("worked example", &mut random, file, tally))
+    worked::files()
+        .iter()
+        .try_for_each(|file| compare_file("worked example", &mut random, file, tally).map(drop))
 }
 
 fn compare_variations(tally: &mut Tally) -> Result<(), String> {
     let mut random = Random::new(0);
-    variations().try_for_each(|file| compare_file("changed sample", &mut random, &file, tally))
+    variations().try_for_each(|file| compare_file("changed sample", &mut random, &file, tally).map(drop))
 }
 
 /// Each file has a seed of its own, so that it can be had again alone.
-fn compare_generated(tally: &mut Tally, seed: u64, files: u64) -> Result<(), String> {
+fn compare_generated(tally: &mut Tally, origins: &mut Origins, seed: u64, files: u64) -> Result<(), String> {
     (0..files).map(|number| seed.wrapping_add(number)).try_for_each(|own| {
         let mut random = Random::new(own);
         let file = generate::file(&mut random);
-        compare_file(&format!("seed {own}"), &mut random, &file, tally)
+        let subject = compare_file(&format!("seed {own}"), &mut random, &file, tally)?;
+        origins.count(&subject);
+        Ok(())
     })
 }
 
-fn compare_file(what: &str, random: &mut Random, file: &[u8], tally: &mut Tally) -> Result<(), String> {
-    let compared = Subject::new(random, file).compare(random, tally);
-    compared.map_err(|text| format!("{what}: {text}\n{}", dump(file)))
+/// Compares every call on the file, which is given back with what the second reader tells of it.
+fn compare_file(what: &str, random: &mut Random, file: &[u8], tally: &mut Tally) -> Result<Subject, String> {
+    let subject = Subject::new(random, file);
+    let compared = subject.compare(random, tally);
+    compared.map_err(|text| format!("{what}: {text}\n{}", dump(file)))?;
+    Ok(subject)
 }

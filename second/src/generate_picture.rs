@@ -1,4 +1,4 @@
-//! Generated pictures: FORM ILBM alone, and LISTs of pictures with a PROP.
+//! Generated pictures: FORM ILBM alone, and LISTs of pictures with PROPs, one in another.
 
 use crate::generate::{filler, local, outer_group};
 use crate::node::Node;
@@ -138,21 +138,30 @@ pub(crate) fn picture_local(random: &mut Random) -> Node {
     }
 }
 
-/// A LIST of pictures under one PROP ILBM.
+/// A LIST of pictures under a PROP ILBM; in it, at times, LISTs with PROPs of
+/// their own, each of which has some of the six properties.
 pub(crate) fn album(random: &mut Random) -> Node {
-    let plan = Plan::of(random);
-    let mut shared = Vec::new();
-    add_header(random, &plan, &mut shared);
-    add_others(random, &mut shared);
-    shared.retain(|node| node.kind.is_none());
-    shuffle(random, &mut shared);
-    let mut members = vec![Node::group(*b"PROP", *b"ILBM", shared)];
+    let levels = random.pick(&[0, 1, 1, 2, 3]);
+    inner_album(random, levels, None)
+}
+
+/// Such a LIST with so many levels of LISTs in it at most, inside others of
+/// which a PROP has a BMHD by the plan `outer`.
+fn inner_album(random: &mut Random, levels: usize, outer: Option<Plan>) -> Node {
+    let has_header = if outer.is_some() { random.one_in(3) } else { !random.one_in(8) };
+    let header = if has_header { Some(Plan::of(random)) } else { None };
+    let plan = header.or(outer);
+    let mut members = shared(random, header);
     for _ in 0..random.between(1, 3) {
-        let mut form = album_member(random, &plan);
+        let mut one = if levels > 0 && random.one_in(2) {
+            inner_album(random, levels - 1, plan)
+        } else {
+            album_member(random, plan)
+        };
         if random.one_in(6) {
-            form = Node::group(random.pick(&[*b"CAT ", *b"LIST"]), *b"ILBM", vec![form]);
+            one = Node::group(random.pick(&[*b"CAT ", *b"LIST"]), *b"ILBM", vec![one]);
         }
-        members.push(form);
+        members.push(one);
         if random.one_in(5) {
             members.push(filler(random));
         }
@@ -160,14 +169,33 @@ pub(crate) fn album(random: &mut Random) -> Node {
     Node::group(*b"LIST", random.pick(&[*b"ILBM", *b"JJJJ"]), members)
 }
 
-fn album_member(random: &mut Random, plan: &Plan) -> Node {
-    match random.below(4) {
-        0 => {
-            let own = Plan::of(random);
-            picture(random, &own, true)
-        }
-        _ => picture(random, plan, false),
+/// The PROP ILBM of an album, with a BMHD by this plan; at times there is none
+/// without it. Beside it, at times, one of another type, which no picture shares.
+fn shared(random: &mut Random, header: Option<Plan>) -> Vec<Node> {
+    let mut properties = Vec::new();
+    if let Some(plan) = header {
+        add_header(random, &plan, &mut properties);
     }
+    add_others(random, &mut properties);
+    properties.retain(|node| node.kind.is_none());
+    shuffle(random, &mut properties);
+    let mut members = Vec::new();
+    if header.is_some() || !random.one_in(8) {
+        members.push(Node::group(*b"PROP", *b"ILBM", properties));
+    }
+    if random.one_in(6) {
+        let other = vec![picture_local(random)];
+        members.push(Node::group(*b"PROP", *b"8SVX", other));
+    }
+    shuffle(random, &mut members);
+    members
+}
+
+/// A picture by the plan that is shared, or with a header of its own.
+fn album_member(random: &mut Random, shared: Option<Plan>) -> Node {
+    let own_header = random.one_in(if shared.is_some() { 4 } else { 2 });
+    let plan = shared.filter(|_| !own_header).unwrap_or_else(|| Plan::of(random));
+    picture(random, &plan, own_header)
 }
 
 fn shuffle(random: &mut Random, members: &mut [Node]) {

@@ -46,19 +46,42 @@ pub struct Properties {
     pub body: Option<Range<usize>>,
 }
 
-/// A FORM ILBM with the PROP ILBM of the nearest LIST around it that has one.
+/// A FORM ILBM with the PROPs ILBM of the LISTs around it, the outermost first.
 struct Picture<'a> {
     form: &'a Chunk,
-    shared: Option<&'a Chunk>,
+    shared: Vec<&'a Chunk>,
 }
 
 /// The properties of a picture, or the first of 1 to 12 and 20 to 24.
 pub fn properties(file: &[u8], number: usize) -> Result<Properties, Refused> {
     let tree = Tree::read(file)?;
+    nth_picture(&tree.outermost, number)?.properties(file)
+}
+
+/// What lies around a picture of an accepted file, for counting how often each case is met.
+#[derive(Clone, Debug, PartialEq, Eq)]
+pub struct Surroundings {
+    /// The places of the PROPs ILBM around it, the nearest first.
+    pub props: Vec<usize>,
+    /// The names and origins of the properties that count and have a wrong size.
+    pub wrong: Vec<(Name, Origin)>,
+}
+
+/// The PROPs around a picture, and the properties for which it is refused with 23.
+pub fn surroundings(file: &[u8], number: usize) -> Result<Surroundings, Refused> {
+    let tree = Tree::read(file)?;
+    let picture = nth_picture(&tree.outermost, number)?;
+    let props = picture.shared.iter().rev().map(|prop| prop.place).collect();
+    Ok(Surroundings { props, wrong: picture.wrong_sizes() })
+}
+
+fn nth_picture(outermost: &Chunk, number: usize) -> Result<Picture<'_>, Refused> {
     let mut pictures = Vec::new();
-    collect(&tree.outermost, None, &mut pictures);
-    let picture = pictures.get(number).ok_or(Refused::plain(20))?;
-    picture.properties(file)
+    collect(outermost, &mut Vec::new(), &mut pictures);
+    if number >= pictures.len() {
+        return Err(Refused::plain(20));
+    }
+    Ok(pictures.swap_remove(number))
 }
 
 /// The CMAP that counts, or the default where none counts.
@@ -67,18 +90,20 @@ pub fn palette<'a>(file: &'a [u8], number: usize, default: &'a [u8]) -> Result<&
     Ok(found.colour_map.value.map_or(default, |range| &file[range]))
 }
 
-fn collect<'a>(chunk: &'a Chunk, shared: Option<&'a Chunk>, pictures: &mut Vec<Picture<'a>>) {
-    let mut shared = shared;
+/// The pictures in a chunk, where these PROPs ILBM stand in the LISTs around it.
+fn collect<'a>(chunk: &'a Chunk, shared: &mut Vec<&'a Chunk>, pictures: &mut Vec<Picture<'a>>) {
     if chunk.kind == Kind::Form && chunk.name == Name::ILBM {
-        pictures.push(Picture { form: chunk, shared });
+        pictures.push(Picture { form: chunk, shared: shared.clone() });
     }
+    let outer = shared.len();
     if chunk.kind == Kind::List {
         let is_prop = |member: &&Chunk| member.kind == Kind::Prop && member.name == Name::ILBM;
-        shared = chunk.members.iter().find(is_prop).or(shared);
+        shared.extend(chunk.members.iter().find(is_prop));
     }
     for member in &chunk.members {
         collect(member, shared, pictures);
     }
+    shared.truncate(outer);
 }
 
 impl<'a> Picture<'a> {
@@ -86,7 +111,9 @@ impl<'a> Picture<'a> {
         let header = self.property(Name::BMHD);
         let header_chunk = header.value.ok_or(Refused::plain(21))?;
         let body = self.only_body()?;
-        self.check_sizes()?;
+        if !self.wrong_sizes().is_empty() {
+            return Err(Refused::plain(23));
+        }
         let read = |chunk: &Chunk| Reader(&file[data_range(chunk)]);
         let header_fields = read_header(&mut read(header_chunk));
         check_header(&header_fields, body.is_some())?;
@@ -108,13 +135,11 @@ impl<'a> Picture<'a> {
         if let Some(own) = last_named(before_body(), name) {
             return Property { origin: Origin::Own, value: Some(own) };
         }
-        let absent = Property { origin: Origin::Absent, value: None };
-        let Some(prop) = self.shared else {
-            return absent;
-        };
-        match last_named(prop.members.iter(), name) {
-            Some(chunk) => Property { origin: Origin::Shared(prop.place), value: Some(chunk) },
-            None => absent,
+        let in_prop =
+            |prop: &&'a Chunk| last_named(prop.members.iter(), name).map(|chunk| (prop.place, chunk));
+        match self.shared.iter().rev().find_map(in_prop) {
+            Some((place, chunk)) => Property { origin: Origin::Shared(place), value: Some(chunk) },
+            None => Property { origin: Origin::Absent, value: None },
         }
     }
 
@@ -128,15 +153,19 @@ impl<'a> Picture<'a> {
         }
     }
 
-    /// 23 if a property that counts has a wrong size.
-    fn check_sizes(&self) -> Result<(), Refused> {
-        let sizes = [(Name::BMHD, 20), (Name::GRAB, 4), (Name::DEST, 8), (Name::SPRT, 2), (Name::CAMG, 4)];
-        let size_of = |name| self.property(name).value.map(|chunk| chunk.size);
-        let wrong = sizes.iter().any(|&(name, right)| size_of(name).is_some_and(|size| size != right));
-        if wrong || size_of(Name::CMAP).is_some_and(|size| size % 3 != 0) {
-            return Err(Refused::plain(23));
-        }
-        Ok(())
+    /// The properties that count and have a wrong size: 23 if there is one.
+    fn wrong_sizes(&self) -> Vec<(Name, Origin)> {
+        let is_right = |name, size| match name {
+            Name::BMHD => size == 20,
+            Name::CMAP => size % 3 == 0,
+            Name::SPRT => size == 2,
+            Name::DEST => size == 8,
+            _ => size == 4,
+        };
+        let names = [Name::BMHD, Name::CMAP, Name::GRAB, Name::DEST, Name::SPRT, Name::CAMG];
+        let found = names.into_iter().map(|name| (name, self.property(name)));
+        let wrong = found.filter(|(name, held)| held.value.is_some_and(|chunk| !is_right(*name, chunk.size)));
+        wrong.map(|(name, held)| (name, held.origin)).collect()
     }
 }
 

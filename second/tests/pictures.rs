@@ -114,12 +114,44 @@ fn origins() {
     assert_eq!((nested.header_origin, nested.header.width), (Origin::Own, 2));
     assert_eq!(nested.colour_map.origin, place);
     let innermost = properties(&file, 3).unwrap();
-    assert_eq!((innermost.colour_map.origin, innermost.precedence.value), (Origin::Absent, Some(1)));
-    assert_eq!(palette(&file, 3, b"default"), Ok(&b"default"[..]));
+    assert_eq!((innermost.colour_map.origin, innermost.precedence.value), (place, Some(1)));
+    assert_eq!(palette(&file, 3, b"default"), Ok(&[2u8; 3][..]));
     assert_eq!(palette(&file, 4, b"default"), refused(20, 0));
 }
 
-/// A LIST between without a PROP ILBM lets the one further out through.
+/// Each property is looked for by itself, outward: "the outer PROP ILBM has
+/// BMHD and CMAP, the inner PROP ILBM only a CMAP".
+#[test]
+fn each_property_by_itself() {
+    let map = |byte: u8| chunk("CMAP", &[byte; 3]);
+    let innermost = list(&[prop(&[chunk("SPRT", &[0, 9])]), form(&[]), form(&[map(7)])]);
+    let inner = list(&[prop(&[map(2), map(3)]), form(&[]), innermost]);
+    let outer = prop(&[header(5, 5, 1, 0, 0), map(1)]);
+    let nearer = 12 + outer.len() + 12;
+    let nearest = nearer + prop(&[map(2), map(3)]).len() + form(&[]).len() + 12;
+    let file = list(&[outer, inner, form(&[])]);
+    for (picture, colour, origin) in [
+        (0, 3, Origin::Shared(nearer)),
+        (1, 3, Origin::Shared(nearer)),
+        (2, 7, Origin::Own),
+        (3, 1, Origin::Shared(12)),
+    ] {
+        let told = properties(&file, picture).unwrap();
+        assert_eq!((told.header_origin, told.header.width), (Origin::Shared(12), 5));
+        assert_eq!(told.colour_map.origin, origin);
+        assert_eq!(palette(&file, picture, b""), Ok(&[colour; 3][..]));
+    }
+    assert_eq!(properties(&file, 0).unwrap().precedence.origin, Origin::Absent);
+    assert_eq!(properties(&file, 1).unwrap().precedence.origin, Origin::Shared(nearest));
+    assert_eq!(second::surroundings(&file, 1).unwrap().props, [nearest, nearer, 12]);
+    let wrong = list(&[prop(&[header(5, 5, 1, 0, 0), chunk("GRAB", b"abc")]), list(&[prop(&[]), form(&[])])]);
+    assert_eq!(number(properties(&wrong, 0)), 23);
+    let own = group("FORM", "ILBM", &[header(5, 5, 1, 0, 0), map(1), list(&[prop(&[map(2)]), form(&[])])]);
+    assert_eq!(number(properties(&own, 1)), 21);
+}
+
+/// A LIST between without a PROP ILBM lets the one further out through, and
+/// so does one whose PROP ILBM hasn't the property.
 #[test]
 fn nearest_list_with_a_prop() {
     let between =
@@ -128,8 +160,9 @@ fn nearest_list_with_a_prop() {
     let told = properties(&file, 0).unwrap();
     assert_eq!((told.header_origin, told.header.width), (Origin::Shared(12), 3));
     let empty = list(&[prop(&[]), form(&[])]);
-    let hidden = list(&[prop(&[header(3, 3, 1, 0, 0)]), empty]);
-    assert_eq!(number(properties(&hidden, 0)), 21);
+    assert_eq!(number(properties(&empty, 0)), 21);
+    let through = list(&[prop(&[header(3, 3, 1, 0, 0)]), empty]);
+    assert_eq!(properties(&through, 0).unwrap().header_origin, Origin::Shared(12));
     let late = form(&[chunk("BODY", b""), header(5, 5, 1, 0, 0), chunk("CMAP", b"abc")]);
     let file = list(&[prop(&[header(3, 3, 1, 0, 0)]), late]);
     let told = properties(&file, 0).unwrap();

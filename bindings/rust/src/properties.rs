@@ -8,7 +8,7 @@ use crate::calls;
 pub enum Origin {
     /// The FORM itself.
     Own,
-    /// The PROP at this place.
+    /// The PROP at this place, that of the nearest LIST whose PROP ILBM has the property.
     Shared(usize),
     /// Nowhere: no such property counts.
     Absent,

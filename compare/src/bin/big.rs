@@ -2,7 +2,8 @@
 //! pictures read, and the largest written, on a thread with the stack that a
 //! call may take. `run_big.sh` runs it with a small stack for the rest.
 
-use compare::large::{accepted, filled_up, forms, group, leaves, nested, props, GROUPS, LEAVES, LEVELS};
+use compare::large::{accepted, filled_up, forms, group, leaves, nested, props, shared_from_afar};
+use compare::large::{GROUPS, LEAVES, LEVELS};
 use compare::write::written;
 use compare::{Subject, Tally};
 use second::generate::WriterInput;
@@ -69,6 +70,13 @@ fn deep_members() -> Case {
     let file = group(b"CAT ", b"JJJJ", &chain.repeat(count));
     let known = Ok(accepted(1 + (LEVELS - 1) * count, file.len()));
     Case { name: "CAT of members nested down to level 16", file: filled_up(file), known }
+}
+
+/// A picture that has its header of the fifteenth LIST outward.
+fn far_header() -> Case {
+    let file = shared_from_afar(60_000);
+    let known = Ok(accepted((LEVELS - 1) * 60_003 + 3, file.len()));
+    Case { name: "15 nested LISTs, each with a PROP of 60,000 chunks", file: filled_up(file), known }
 }
 
 fn too_deep() -> Case {
@@ -142,13 +150,14 @@ fn write_pictures() -> Result<(), String> {
 }
 
 fn run_all(count: usize) -> ExitCode {
-    let cases: [&dyn Fn() -> Case; 10] = [
+    let cases: [&dyn Fn() -> Case; 11] = [
         &full_form,
         &full_cat,
         &|| list_of_props(count),
         &|| second_prop(count),
         &deepest,
         &deep_members,
+        &far_header,
         &too_deep,
         &too_long,
         &|| widest_picture(0),

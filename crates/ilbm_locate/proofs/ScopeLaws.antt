@@ -1,5 +1,5 @@
--- What the members of a group share: a PROP gives its last chunk of each name; in a LIST the first PROP ILBM decides, and else the scope
--- around it stays.
+-- What the members of a group share: of each name the last chunk in the LIST's first PROP ILBM, and where that has none, or the LIST has
+-- no PROP ILBM, what is shared around the LIST.
 use Prim.Native.Nat.{ℕ, _+_, _≤_, _<_}
 use mathlib.Core.Path.{_≡_, refl, sym, ap, _∙_}
 use mathlib.Core.Bool.{Bool, true, false}
@@ -12,7 +12,18 @@ use Rattle.iff_name.specs.Codes.{LIST}
 use Rattle.iff_chunk.specs.Chunks.{Chunks, none, leaf, group, bytes, word}
 use Rattle.iff_grammar.specs.laws.Read.{length-leaf, length-group}
 use Rattle.ilbm_spec.specs.Names.{BMHD, CMAP, GRAB, DEST, SPRT, CAMG, isSharedProp}
-use Rattle.ilbm_spec.specs.Contents.{Located, lastNamed, nowhere, sharedFrom, Scope as Shares, noScope, propScope, listScope, scopeInside}
+use Rattle.ilbm_spec.specs.Contents.{
+  Located,
+  lastNamed,
+  nowhere,
+  Property,
+  sharedOr,
+  Scope as Shares,
+  noScope,
+  propScope,
+  listScope,
+  scopeInside,
+}
 use Rattle.ilbm_members.specs.declared.Sibling.{Sibling}
 use Rattle.ilbm_members.specs.declared.Gathered.{Gathered}
 use Rattle.ilbm_members.specs.Members.{Holds, Row, Marks, Front, Tells}
@@ -20,43 +31,41 @@ use Rattle.ilbm_members.specs.Gathers.{Gathers}
 use Rattle.ilbm_members.proofs.Laws.{row-next, row-le, more-room, more-less, leaf-steps, group-steps}
 use Rattle.ilbm_locate.specs.declared.Shared.{Shared}
 use Rattle.ilbm_locate.specs.declared.Scope.{Scope}
-use Rattle.ilbm_locate.specs.Scopes.{SharedIs, ScopeIs, Scoped, noneShared, PropGives, ListGives, GivesInside}
+use Rattle.ilbm_locate.specs.Scopes.{SharedIs, ScopeIs, Scoped, noneShared, nearer, PropGives, ListGives, GivesInside}
 use Rattle.ilbm_locate.specs.Spots.{groupIs, IsGroup, GroupAt}
 use Rattle.ilbm_locate.proofs.Laws.{never, empty, inner-holds, name-here, leaf-no-group, tested-group}
 
 pub none-scoped : (s : List ℕ) → ScopeIs s noneShared noScope
 none-scoped s = record { bmhd = refl; cmap = refl; grab = refl; dest = refl; sprt = refl; camg = refl }
 
--- the places that one pass over a PROP gathers
-shared-is : (s : List ℕ) (q k : ℕ) (o : Option Located) → Marks s k o → SharedIs s (record { prop = q; place = k }) (sharedFrom q o)
-shared-is s q k (some x) m = (refl, m)
-shared-is s q k nothing m = m
+-- the place that one pass over a PROP gathers for a name, or else what is shared further out
+shared-is :
+    (s : List ℕ) (q k : ℕ) (h r : Shared) (o : Option Located) (outer : Property) → r ≡ nearer q k h → Marks s k o → SharedIs s h outer →
+    SharedIs s r (sharedOr q o outer)
+shared-is s q k h r (some x) outer e m i =
+    rw (e, ne-eqb k 0 (λ z. absurd (let l = m .1 in omega (arith, z)))) (refl, m)
+shared-is s q k h r nothing outer e m i = rw (e, eq-eqb k 0 m) i
 
-abbrev scopeOf : ℕ → Gathered → Scope
-scopeOf q g =
-    record {
-      bmhd = record { prop = q; place = g .bmhd };
-      cmap = record { prop = q; place = g .cmap };
-      grab = record { prop = q; place = g .grab };
-      dest = record { prop = q; place = g .dest };
-      sprt = record { prop = q; place = g .sprt };
-      camg = record { prop = q; place = g .camg };
-    }
-
-pub prop-gives : (s : List ℕ) (q z : ℕ) (g : Gathered) → z ≡ word s (q + 4) → Gathers s (q + 12) (q + 8 + z) true g →
-    PropGives s q (scopeOf q g)
-prop-gives s q z g i w = record { at = go }
+pub prop-gives :
+    (s : List ℕ) (q z : ℕ) (g : Gathered) (c r : Scope) → z ≡ word s (q + 4) → Gathers s (q + 12) (q + 8 + z) true g →
+    (r .bmhd ≡ nearer q (g .bmhd) (c .bmhd)) → (r .cmap ≡ nearer q (g .cmap) (c .cmap)) →
+    (r .grab ≡ nearer q (g .grab) (c .grab)) → (r .dest ≡ nearer q (g .dest) (c .dest)) →
+    (r .sprt ≡ nearer q (g .sprt) (c .sprt)) → (r .camg ≡ nearer q (g .camg) (c .camg)) →
+    PropGives s q c r
+prop-gives s q z g c r i w e1 e2 e3 e4 e5 e6 = record { at = go }
   where
-    go : (G : Chunks) (R : List ℕ) → Holds s (q + 12) (q + 8 + word s (q + 4)) G R → ScopeIs s (scopeOf q g) (propScope q G)
-    go G R h =
+    go : (G : Chunks) (R : List ℕ) (scope : Shares) → Holds s (q + 12) (q + 8 + word s (q + 4)) G R → ScopeIs s c scope →
+        ScopeIs s r (propScope q G scope)
+    go G R scope h y =
         let k : Holds s (q + 12) (q + 8 + z) G R = rw i h in
+        let last : ℕ → Option Located = λ name. lastNamed nowhere name (q + 12) nothing G in
         record {
-          bmhd = shared-is s q (g .bmhd) (lastNamed nowhere BMHD (q + 12) nothing G) (w .last .bmhd .at G R k);
-          cmap = shared-is s q (g .cmap) (lastNamed nowhere CMAP (q + 12) nothing G) (w .last .cmap .at G R k);
-          grab = shared-is s q (g .grab) (lastNamed nowhere GRAB (q + 12) nothing G) (w .last .grab .at G R k);
-          dest = shared-is s q (g .dest) (lastNamed nowhere DEST (q + 12) nothing G) (w .last .dest .at G R k);
-          sprt = shared-is s q (g .sprt) (lastNamed nowhere SPRT (q + 12) nothing G) (w .last .sprt .at G R k);
-          camg = shared-is s q (g .camg) (lastNamed nowhere CAMG (q + 12) nothing G) (w .last .camg .at G R k);
+          bmhd = shared-is s q _ _ _ (last BMHD) (scope BMHD) e1 (w .last .bmhd .at G R k) (y .bmhd);
+          cmap = shared-is s q _ _ _ (last CMAP) (scope CMAP) e2 (w .last .cmap .at G R k) (y .cmap);
+          grab = shared-is s q _ _ _ (last GRAB) (scope GRAB) e3 (w .last .grab .at G R k) (y .grab);
+          dest = shared-is s q _ _ _ (last DEST) (scope DEST) e4 (w .last .dest .at G R k) (y .dest);
+          sprt = shared-is s q _ _ _ (last SPRT) (scope SPRT) e5 (w .last .sprt .at G R k) (y .sprt);
+          camg = shared-is s q _ _ _ (last CAMG) (scope CAMG) e6 (w .last .camg .at G R k) (y .camg);
         }
 
 -- the chunks still to come give the scope that is looked for
@@ -87,22 +96,22 @@ module _ (s : List ℕ) (p e : ℕ) where
             let v : isSharedProp n x ≡ false = sym y ∙ i in
             (K, f .1, λ scope. ap (λ (z : ℕ). listScope z K scope) (sym (group-steps s q e _ _ n x G K R h f)) ∙ (rw v at (u scope)))
 
-    pub sharing-hit : (c r : Scope) → b ≡ true → PropGives s q r → ListGives s p e c r
+    pub sharing-hit : (c r : Scope) → b ≡ true → PropGives s q c r → ListGives s p e c r
     unfolding listScope
     sharing-hit c r i a = record {
       at = λ F R scope h k. let x = w .at F R h in
-          go F R scope (x .0) (x .1) (x .2 scope) (g .at (x .0) R (x .1));
+          go F R scope k (x .0) (x .1) (x .2 scope) (g .at (x .0) R (x .1));
     }
       where
         go :
-            (F : Chunks) (R : List ℕ) (scope : Shares) (K : Chunks) → Holds s q e K R → listScope q K scope ≡ listScope p F scope →
-            b ≡ groupIs isSharedProp K → ScopeIs s r (listScope p F scope)
-        go F R scope none h u y = never (sym i ∙ y)
-        go F R scope (leaf n d pd K) h u y = never (sym i ∙ y)
-        go F R scope (group n x G K) h u y =
+            (F : Chunks) (R : List ℕ) (scope : Shares) → ScopeIs s c scope → (K : Chunks) → Holds s q e K R →
+            listScope q K scope ≡ listScope p F scope → b ≡ groupIs isSharedProp K → ScopeIs s r (listScope p F scope)
+        go F R scope k none h u y = never (sym i ∙ y)
+        go F R scope k (leaf n d pd K) h u y = never (sym i ∙ y)
+        go F R scope k (group n x G K) h u y =
             let v : isSharedProp n x ≡ true = sym y ∙ i in
-            let u' : propScope q G ≡ listScope p F scope = rw v at u in
-            rw (← u') (a .at G (bytes K ++ R) (inner-holds s q e n x G K R h))
+            let u' : propScope q G scope ≡ listScope p F scope = rw v at u in
+            rw (← u') (a .at G (bytes K ++ R) scope (inner-holds s q e n x G K R h) k)
 
   pub sharing-end : (q : ℕ) (c : Scope) → e ≤ q → Sharing s p e q → ListGives s p e c c
   unfolding listScope

@@ -3,6 +3,8 @@ use Prim.Native.Nat.{ℕ, _+_}
 use mathlib.Core.Path.{_≡_}
 use mathlib.Core.List.{List}
 use mathlib.Core.Option.{some}
+use lib.Dec.{eqb}
+use Rattle.iff_name.specs.Name.{pick}
 use Rattle.iff_chunk.specs.Chunks.{Chunks, group, word}
 use Rattle.ilbm_spec.specs.Names.{BMHD, CMAP, GRAB, DEST, SPRT, CAMG}
 use Rattle.ilbm_spec.specs.Contents.{Property, own, shared, absent, Scope as Shares, propScope, listScope, scopeInside}
@@ -39,9 +41,15 @@ noneShared =
       camg = record { prop = 0; place = 0 };
     }
 
--- what the PROP at q gives
-pub record PropGives (s : List ℕ) (q : ℕ) (r : Scope) : Type 0 where
-  pub at : (G : Chunks) (R : List ℕ) → Holds s (q + 12) (q + 8 + word s (q + 4)) G R → ScopeIs s r (propScope q G)
+-- the chunk at a place in the PROP at q, or what is shared further out where the place is 0
+abbrev pub nearer : ℕ → ℕ → Shared → Shared
+nearer q place outer = pick (eqb place 0) outer (record { prop = q; place = place })
+
+-- r tells the scope that the PROP at q makes, where c tells the scope around its LIST
+pub record PropGives (s : List ℕ) (q : ℕ) (c r : Scope) : Type 0 where
+  pub at :
+      (G : Chunks) (R : List ℕ) (scope : Shares) → Holds s (q + 12) (q + 8 + word s (q + 4)) G R → ScopeIs s c scope →
+      ScopeIs s r (propScope q G scope)
 
 -- r tells the scope of a LIST's members, where c tells the scope around it
 pub record ListGives (s : List ℕ) (p e : ℕ) (c r : Scope) : Type 0 where

@@ -11,7 +11,7 @@ ghost use Prim.Native.Nat.{_+_, _<_};
 ghost use mathlib.Core.Path.{_≡_};
 ghost use Rattle.ilbm_spec.specs.Names.{isSharedProp};
 ghost use Rattle.ilbm_members.specs.Members.{Row};
-ghost use Rattle.ilbm_locate.specs.Scopes.{noneShared, Scoped, PropGives, ListGives, GivesInside};
+ghost use Rattle.ilbm_locate.specs.Scopes.{noneShared, nearer, Scoped, PropGives, ListGives, GivesInside};
 ghost use Rattle.ilbm_locate.specs.Spots.{Seeks, Visits, Enters, IsGroup, GroupAt};
 
 // A property that a PROP shares: the PROP's place, and the property's own, 0 for none.
@@ -63,44 +63,37 @@ fn shared_prop_at(s: &[u8], q: usize, e: usize) -> bool
     false
 }
 
-// What the PROP at q shares.
-fn prop_scope(s: &[u8], q: usize, e: usize) -> Scope
+// The property at a place in the PROP at q, or, where the PROP has none, the one shared further out.
+fn nearer_of(q: usize, place: usize, outer: Shared) -> Shared
+    ensures { λ r. ⌜ r ≡ nearer q place outer ⌝ }
+{
+    if place == 0 {
+        outer
+    } else {
+        Shared { prop: q, place }
+    }
+}
+
+// What is shared beside the PROP at q, in the scope around its LIST: each property by itself.
+fn prop_scope(s: &[u8], q: usize, e: usize, scope: Scope) -> Scope
     requires { ⌜ GroupAt (now s) q e ⌝ }
-    ensures { λ r. ⌜ PropGives (now (s .entry)) q r ⌝ }
+    ensures { λ r. ⌜ PropGives (now (s .entry)) q scope r ⌝ }
 {
     let end = q + 8 + size_at(s, q + 4);
     let g = gather(s, q + 12, end, true);
-    let bmhd = Shared {
-        prop: q,
-        place: g.bmhd,
-    };
-    let cmap = Shared {
-        prop: q,
-        place: g.cmap,
-    };
-    let grab = Shared {
-        prop: q,
-        place: g.grab,
-    };
-    let dest = Shared {
-        prop: q,
-        place: g.dest,
-    };
-    let sprt = Shared {
-        prop: q,
-        place: g.sprt,
-    };
-    let camg = Shared {
-        prop: q,
-        place: g.camg,
-    };
+    let bmhd = scope.bmhd;
+    let cmap = scope.cmap;
+    let grab = scope.grab;
+    let dest = scope.dest;
+    let sprt = scope.sprt;
+    let camg = scope.camg;
     Scope {
-        bmhd,
-        cmap,
-        grab,
-        dest,
-        sprt,
-        camg,
+        bmhd: nearer_of(q, g.bmhd, bmhd),
+        cmap: nearer_of(q, g.cmap, cmap),
+        grab: nearer_of(q, g.grab, grab),
+        dest: nearer_of(q, g.dest, dest),
+        sprt: nearer_of(q, g.sprt, sprt),
+        camg: nearer_of(q, g.camg, camg),
     }
 }
 
@@ -112,7 +105,7 @@ fn list_scope(s: &[u8], p: usize, e: usize, scope: Scope) -> Scope
     let mut q = p;
     while q < e {
         if shared_prop_at(s, q, e) {
-            return prop_scope(s, q, e);
+            return prop_scope(s, q, e, scope);
         }
         q = sibling_at(s, q, e).next;
     }

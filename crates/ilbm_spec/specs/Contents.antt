@@ -47,20 +47,21 @@ Scope = ℕ → Property
 abbrev pub noScope : Scope
 noScope = λ name. absent
 
-abbrev pub sharedFrom : ℕ → Option Located → Property
-sharedFrom place (some x) = shared place x
-sharedFrom place nothing = absent
+-- 02, Ask 1: "looked for in the nearest enclosing LIST whose PROP ILBM has that property, going outward. The origin names that PROP."
+abbrev pub sharedOr : ℕ → Option Located → Property → Property
+sharedOr place (some x) outer = shared place x
+sharedOr place nothing outer = outer
 
--- "the shared PROP gives its last one": the PROP at p with the members G; "lists further out don't count"
-abbrev pub propScope : ℕ → Chunks → Scope
-propScope p G = λ name. sharedFrom p (lastNamed nowhere name (p + 12) nothing G)
+-- "the shared PROP gives its last one": the scope that the PROP at p with the members G makes in the one around its LIST
+abbrev pub propScope : ℕ → Chunks → Scope → Scope
+propScope p G scope = λ name. sharedOr p (lastNamed nowhere name (p + 12) nothing G) (scope name)
 
--- "the nearest enclosing LIST that has a PROP ILBM supplies it": the scope for the members of a LIST, the first of which stands at p,
--- in the scope around it
+-- the scope for the members of a LIST, the first of which stands at p, in the scope around it: "The standard scopes each property by
+-- itself."
 unfoldable pub listScope : ℕ → Chunks → Scope → Scope
 listScope p none scope = scope
 listScope p (leaf n d pad F) scope = listScope (p + (8 + length d + length pad)) F scope
-listScope p (group n t G F) scope = pick (isSharedProp n t) (propScope p G) (listScope (p + (12 + length (bytes G))) F scope)
+listScope p (group n t G F) scope = pick (isSharedProp n t) (propScope p G scope) (listScope (p + (12 + length (bytes G))) F scope)
 
 -- the scope for the members of a group of this name at p
 abbrev pub scopeInside : ℕ → ℕ → Chunks → Scope → Scope

@@ -1,5 +1,6 @@
 pub mod Names
 pub mod Contents
+pub mod Examples
 pub mod Pictures
 pub mod Palette
 pub mod Rows

@@ -1,7 +1,7 @@
 //! The check and a record by number, on the largest files.
 
 use crate::timing::{beside, grown, heading, timed};
-use compare::large::{forms, leaves, props, GROUPS, LEAVES};
+use compare::large::{forms, leaves, props, shared_from_afar, GROUPS, LEAVES};
 use compare::{plain, CALLS};
 use std::hint::black_box;
 
@@ -33,6 +33,25 @@ pub fn against_others() {
     ];
     files.iter().for_each(|(what, file, _)| check(what, file));
     files.iter().for_each(|(what, file, count)| record(what, file, 1 + count));
+}
+
+/// Chunks in each of fifteen PROPs.
+const IN_EACH: usize = 60_000;
+
+/// The calls on a picture in fifteen LISTs, each with a PROP of many chunks, beside the check of the same file; the greatest ratio.
+pub fn through_lists() -> f64 {
+    println!("\n{:48} {:>11} {:>11} {:>10}", "picture in 15 LISTs with PROPs", "call", "check", "/ check");
+    let file = shared_from_afar(IN_EACH);
+    let check = || timed(|| florinhado::check(black_box(&file)));
+    let header = || timed(|| florinhado::header(black_box(&file), 0));
+    let palette = timed(|| florinhado::palette(black_box(&file), 0, b""));
+    let frame = timed(|| florinhado::frame(black_box(&file), 0, &mut [0]));
+    let greatest = grown("ilbm_header", header(), check())
+        .max(grown("ilbm_palette", palette, check()))
+        .max(grown("ilbm_frame", frame, check()));
+    let half = shared_from_afar(IN_EACH / 2);
+    grown("ilbm_header, twice the chunks", header(), timed(|| florinhado::header(black_box(&half), 0)));
+    greatest
 }
 
 /// Every call on the file of so many chunks and on one of half as many; the

@@ -10,7 +10,7 @@ use Rattle.iff_name.specs.Name.{pick}
 use Rattle.iff_name.specs.Codes.{LIST}
 use Rattle.iff_chunk.specs.Chunks.{Chunks, none, leaf, group, bytes}
 use Rattle.ilbm_spec.specs.Names.{BMHD, CMAP, GRAB, DEST, SPRT, CAMG, BODY, isPicture, isSharedProp}
-use Rattle.ilbm_spec.specs.Contents.{Located, located, lastNamed, atBody, nowhere, Property, own, shared, absent, Scope, sharedFrom}
+use Rattle.ilbm_spec.specs.Contents.{Located, located, lastNamed, atBody, nowhere, Property, own, shared, absent, Scope, sharedOr}
 use Rattle.ilbm_spec.specs.Contents.{propScope, listScope, scopeInside, ownOr, propertyOf, bodiesFrom, Content, contentOf}
 use Rattle.ilbm_spec.specs.Contents.{contentsFrom}
 use Rattle.ilbm_spec.specs.Contents.{movedLocated, movedProperty, movedBodies, movedContent}
@@ -78,11 +78,13 @@ module _ (move : ℕ → ℕ) where
   bodies-carried (leaf n d pad F) p p′ c = body-moved (eqb n BODY) p p′ d _ _ (c .0) (bodies-carried F _ _ (c .1))
   bodies-carried (group n t G F) p p′ c = bodies-carried F _ _ (c .2)
 
-  shared-moved : (p p′ : ℕ) (o o′ : Option Located) → move p ≡ p′ → o′ ≡ movedOption move o →
-      sharedFrom p′ o′ ≡ movedProperty move (sharedFrom p o)
-  shared-moved p p′ o o′ m e = ap₂ (λ (q : ℕ) (x : Option Located). sharedFrom q x) (sym m) e ∙ go o
+  -- a property of the PROP at p moves with it, one from further out with its own PROP
+  shared-moved :
+      (p p′ : ℕ) (o o′ : Option Located) (q q′ : Property) → move p ≡ p′ → o′ ≡ movedOption move o → q′ ≡ movedProperty move q →
+      sharedOr p′ o′ q′ ≡ movedProperty move (sharedOr p o q)
+  shared-moved p p′ o o′ q q′ m e f = rw (← m, e, f) (go o)
     where
-      go : (o : Option Located) → sharedFrom (move p) (movedOption move o) ≡ movedProperty move (sharedFrom p o)
+      go : (o : Option Located) → sharedOr (move p) (movedOption move o) (movedProperty move q) ≡ movedProperty move (sharedOr p o q)
       go (some x) = refl
       go nothing = refl
 
@@ -139,15 +141,18 @@ module _ (move : ℕ → ℕ) where
 
   -- what a PROP gives whose members are G, and then G′
   pub prop-moved :
-      (p p′ : ℕ) (G G′ : Chunks) → move p ≡ p′ →
+      (p p′ : ℕ) (G G′ : Chunks) (scope scope′ : Scope) → move p ≡ p′ →
       ((name : ℕ) → Known name →
       lastNamed nowhere name (p′ + 12) nothing G′ ≡ movedOption move (lastNamed nowhere name (p + 12) nothing G)) →
-      SameScope move (propScope p G) (propScope p′ G′)
-  prop-moved p p′ G G′ m e = λ name k. shared-moved p p′ (lastNamed nowhere name (p + 12) nothing G) _ m (e name k)
+      SameScope move scope scope′ → SameScope move (propScope p G scope) (propScope p′ G′ scope′)
+  prop-moved p p′ G G′ scope scope′ m e s =
+      λ name k. shared-moved p p′ (lastNamed nowhere name (p + 12) nothing G) _ (scope name) _ m (e name k) (s name k)
 
   pub prop-carried :
-      (p p′ : ℕ) (G : Chunks) → move p ≡ p′ → ChunksMove move (p + 12) (p′ + 12) G → SameScope move (propScope p G) (propScope p′ G)
-  prop-carried p p′ G m c = prop-moved p p′ G G m (λ name k. named-carried nowhere name G _ _ nothing nothing c refl)
+      (p p′ : ℕ) (G : Chunks) (scope scope′ : Scope) → move p ≡ p′ → ChunksMove move (p + 12) (p′ + 12) G →
+      SameScope move scope scope′ → SameScope move (propScope p G scope) (propScope p′ G scope′)
+  prop-carried p p′ G scope scope′ m c s =
+      prop-moved p p′ G G scope scope′ m (λ name k. named-carried nowhere name G _ _ nothing nothing c refl) s
 
   -- the scope in a LIST
   pub scope-carried :
@@ -157,7 +162,8 @@ module _ (move : ℕ → ℕ) where
   scope-carried none p p′ scope scope′ c s = s
   scope-carried (leaf n d pad F) p p′ scope scope′ c s = scope-carried F _ _ scope scope′ (c .1) s
   scope-carried (group n t G F) p p′ scope scope′ c s =
-      pick-scope (isSharedProp n t) _ _ _ _ (prop-carried p p′ G (c .0) (c .1)) (scope-carried F _ _ scope scope′ (c .2) s)
+      pick-scope (isSharedProp n t) _ _ _ _ (prop-carried p p′ G scope scope′ (c .0) (c .1) s)
+      (scope-carried F _ _ scope scope′ (c .2) s)
 
   -- the pictures
   pub contents-carried :

@@ -154,14 +154,15 @@ scope-inserted (past i) X (leaf n d pd F) g h p scope scope′ s = scope-inserte
 scope-inserted (past i) X (group n t G F) g h p scope scope′ s =
     let low = place-low i F (p + (12 + length (bytes G))) in
     let c = chunks-before G (boundaryPlace i (p + (12 + length (bytes G))) F) (length (bytesOf X)) (p + 12) (omega arith) in
-    pick-scope _ (isSharedProp n t) _ _ _ _ (prop-carried _ p p G (moved-before _ _ p (omega arith)) c) (scope-inserted i X F g h _ scope scope′ s)
+    pick-scope _ (isSharedProp n t) _ _ _ _ (prop-carried _ p p G scope scope′ (moved-before _ _ p (omega arith)) c s)
+    (scope-inserted i X F g h _ scope scope′ s)
 scope-inserted (into i) X none g h p scope scope′ s = absurd h
 scope-inserted (into i) X (leaf n d pd F) g h p scope scope′ s = absurd h
 scope-inserted (into i) X (group n t G F) g h p scope scope′ s =
     let low = place-low i G (p + 12) in
     pick-scope _ (isSharedProp n t) _ _ _ _
-    (prop-moved _ p p G (insert i X G) (moved-before _ _ p (omega arith))
-    (λ name k. named-inserted nowhere (λ n h. refl) name k i X G g h (p + 12) nothing nothing refl))
+    (prop-moved _ p p G (insert i X G) scope scope′ (moved-before _ _ p (omega arith))
+    (λ name k. named-inserted nowhere (λ n h. refl) name k i X G g h (p + 12) nothing nothing refl) s)
     (scope-carried _ F _ _ scope scope′ (behind i X G F h p) s)
 
 -- the pictures
