@@ -50,7 +50,10 @@ fn compare_pictures(before: &[u8], later: &Later, asked: &[Asked], census: &mut 
         let old = Answers::of_library(before, asked);
         let new = Answers::of_library(&later.file, asked);
         census.add(u64::from(old.is_shown()), "pictures", "shown");
-        census.add(u64::from(old.is_shared() && old != new), "pictures", "with a PROP moved");
+        let moves: Vec<usize> = old.props().into_iter().map(|place| later.moved(place) - place).collect();
+        census.add(u64::from(moves.iter().any(|by| *by > 0)), "pictures", "with a PROP moved");
+        let apart = moves.windows(2).any(|pair| pair[0] != pair[1]);
+        census.add(u64::from(apart), "pictures", "with PROPs moved by different lengths");
         let wanted = old.moved(&|place| later.moved(place));
         let referee = Answers::of_second(&later.file, asked);
         agree(&format!("picture {}", asked.picture), new, wanted, referee)?;

@@ -119,9 +119,18 @@ impl Answers {
         }
     }
 
-    /// Whether the BMHD is that of a PROP.
-    pub fn is_shared(&self) -> bool {
-        self.header.is_ok_and(|told| matches!(told.origin, Origin::Shared(_)))
+    /// The place of each PROP that a property comes from.
+    pub fn props(&self) -> Vec<usize> {
+        let origins = [
+            self.header.map(|told| told.origin),
+            self.grab.map(|told| told.origin),
+            self.destination.map(|told| told.origin),
+            self.sprite.map(|told| told.origin),
+            self.view_mode.map(|told| told.origin),
+            self.palette.as_ref().map(|told| told.origin).map_err(|refused| *refused),
+        ];
+        let place = |origin| if let Ok(Origin::Shared(place)) = origin { Some(place) } else { None };
+        origins.into_iter().filter_map(place).collect()
     }
 
     /// Whether a frame is shown.

@@ -11,7 +11,7 @@ use Rattle.iff_name.specs.Name.{kindOf}
 use Rattle.iff_name.specs.declared.Kind.{Kind}
 use Rattle.iff_chunk.specs.Chunks.{Chunks, none, leaf, group, bytes, word}
 use Rattle.iff_rules.specs.Rules.{isGroup}
-use Rattle.iff_grammar.specs.laws.Read.{leaf-name, group-fits, group-name, group-size, group-type, group-members, length-leaf, length-group}
+use Rattle.iff_grammar.specs.laws.Read.{leaf-name, group-fits, group-name, group-size, group-type, group-members, length-group}
 use Rattle.ilbm_members.specs.Members.{Holds, Row}
 use Rattle.ilbm_members.proofs.Laws.{row-room}
 use Rattle.ilbm_locate.specs.Spots.{Opens, groupIs, IsGroup, GroupAt}

@@ -1,58 +1,57 @@
 -- What the members of a group share: of each name the last chunk in the LIST's first PROP ILBM, and where that has none, or the LIST has
 -- no PROP ILBM, what is shared around the LIST.
-use Prim.Native.Nat.{ℕ, _+_, _≤_, _<_}
+use Prim.Native.Nat.{ℕ, _+_, _≤_}
 use mathlib.Core.Path.{_≡_, refl, sym, ap, _∙_}
 use mathlib.Core.Bool.{Bool, true, false}
 use mathlib.Core.List.{List, _++_}
 use mathlib.Core.Option.{Option, some, none as nothing}
-use lib.ListN.{length}
 use borrow.Author.Tests.{eq-eqb, ne-eqb}
 use native.Mathlib.Omega.{arith}
 use Rattle.iff_name.specs.Codes.{LIST}
 use Rattle.iff_chunk.specs.Chunks.{Chunks, none, leaf, group, bytes, word}
 use Rattle.iff_grammar.specs.laws.Read.{length-leaf, length-group}
 use Rattle.ilbm_spec.specs.Names.{BMHD, CMAP, GRAB, DEST, SPRT, CAMG, isSharedProp}
-use Rattle.ilbm_spec.specs.Contents.{
-  Located,
-  lastNamed,
-  nowhere,
-  Property,
-  sharedOr,
-  Scope as Shares,
-  noScope,
-  propScope,
-  listScope,
-  scopeInside,
-}
+use Rattle.ilbm_spec.specs.Contents.{Located, lastNamed, nowhere, Property, sharedOr, Scope as Shares, noScope, propScope}
+use Rattle.ilbm_spec.specs.Contents.{listScope, scopeInside}
 use Rattle.ilbm_members.specs.declared.Sibling.{Sibling}
 use Rattle.ilbm_members.specs.declared.Gathered.{Gathered}
-use Rattle.ilbm_members.specs.Members.{Holds, Row, Marks, Front, Tells}
+use Rattle.ilbm_members.specs.Members.{Holds, Marks, Front, Tells}
 use Rattle.ilbm_members.specs.Gathers.{Gathers}
 use Rattle.ilbm_members.proofs.Laws.{row-next, row-le, more-room, more-less, leaf-steps, group-steps}
 use Rattle.ilbm_locate.specs.declared.Shared.{Shared}
 use Rattle.ilbm_locate.specs.declared.Scope.{Scope}
-use Rattle.ilbm_locate.specs.Scopes.{SharedIs, ScopeIs, Scoped, noneShared, nearer, PropGives, ListGives, GivesInside}
-use Rattle.ilbm_locate.specs.Spots.{groupIs, IsGroup, GroupAt}
-use Rattle.ilbm_locate.proofs.Laws.{never, empty, inner-holds, name-here, leaf-no-group, tested-group}
+use Rattle.ilbm_locate.specs.Scopes.{SharedIs, ScopeIs, noneShared, Nearer, PropGives, ListGives, GivesInside}
+use Rattle.ilbm_locate.specs.Spots.{groupIs, IsGroup}
+use Rattle.ilbm_locate.proofs.Laws.{never, inner-holds, name-here, tested-group}
 
 pub none-scoped : (s : List ℕ) → ScopeIs s noneShared noScope
 none-scoped s = record { bmhd = refl; cmap = refl; grab = refl; dest = refl; sprt = refl; camg = refl }
 
--- the place that one pass over a PROP gathers for a name, or else what is shared further out
-shared-is :
-    (s : List ℕ) (q k : ℕ) (h r : Shared) (o : Option Located) (outer : Property) → r ≡ nearer q k h → Marks s k o → SharedIs s h outer →
-    SharedIs s r (sharedOr q o outer)
-shared-is s q k h r (some x) outer e m i =
-    rw (e, ne-eqb k 0 (λ z. absurd (let l = m .1 in omega (arith, z)))) (refl, m)
-shared-is s q k h r nothing outer e m i = rw (e, eq-eqb k 0 m) i
+-- no chunk stands at 0: there the outer property is kept
+module _ (q k : ℕ) (h : Shared) where
+  pub nearer-outer : k ≡ 0 → Nearer q k h h
+  nearer-outer z = record { at = go }
+    where
+      go : (s : List ℕ) (o : Option Located) (outer : Property) → Marks s k o → SharedIs s h outer → SharedIs s h (sharedOr q o outer)
+      go s (some x) outer m i = absurd (omega (arith, m .1))
+      go s nothing outer m i = i
 
+  pub nearer-own : (k ≡ 0 → ⊥) → Nearer q k h (record { prop = q; place = k })
+  nearer-own z = record { at = go }
+    where
+      go :
+          (s : List ℕ) (o : Option Located) (outer : Property) → Marks s k o → SharedIs s h outer →
+          SharedIs s (record { prop = q; place = k }) (sharedOr q o outer)
+      go s (some x) outer m i = (refl, m)
+      go s nothing outer m i = absurd (z m)
+
+-- each property by itself: what one pass over a PROP gathers for its name, or else what is shared further out
 pub prop-gives :
     (s : List ℕ) (q z : ℕ) (g : Gathered) (c r : Scope) → z ≡ word s (q + 4) → Gathers s (q + 12) (q + 8 + z) true g →
-    (r .bmhd ≡ nearer q (g .bmhd) (c .bmhd)) → (r .cmap ≡ nearer q (g .cmap) (c .cmap)) →
-    (r .grab ≡ nearer q (g .grab) (c .grab)) → (r .dest ≡ nearer q (g .dest) (c .dest)) →
-    (r .sprt ≡ nearer q (g .sprt) (c .sprt)) → (r .camg ≡ nearer q (g .camg) (c .camg)) →
+    Nearer q (g .bmhd) (c .bmhd) (r .bmhd) → Nearer q (g .cmap) (c .cmap) (r .cmap) → Nearer q (g .grab) (c .grab) (r .grab) →
+    Nearer q (g .dest) (c .dest) (r .dest) → Nearer q (g .sprt) (c .sprt) (r .sprt) → Nearer q (g .camg) (c .camg) (r .camg) →
     PropGives s q c r
-prop-gives s q z g c r i w e1 e2 e3 e4 e5 e6 = record { at = go }
+prop-gives s q z g c r i w bmhd cmap grab dest sprt camg = record { at = go }
   where
     go : (G : Chunks) (R : List ℕ) (scope : Shares) → Holds s (q + 12) (q + 8 + word s (q + 4)) G R → ScopeIs s c scope →
         ScopeIs s r (propScope q G scope)
@@ -60,12 +59,12 @@ prop-gives s q z g c r i w e1 e2 e3 e4 e5 e6 = record { at = go }
         let k : Holds s (q + 12) (q + 8 + z) G R = rw i h in
         let last : ℕ → Option Located = λ name. lastNamed nowhere name (q + 12) nothing G in
         record {
-          bmhd = shared-is s q _ _ _ (last BMHD) (scope BMHD) e1 (w .last .bmhd .at G R k) (y .bmhd);
-          cmap = shared-is s q _ _ _ (last CMAP) (scope CMAP) e2 (w .last .cmap .at G R k) (y .cmap);
-          grab = shared-is s q _ _ _ (last GRAB) (scope GRAB) e3 (w .last .grab .at G R k) (y .grab);
-          dest = shared-is s q _ _ _ (last DEST) (scope DEST) e4 (w .last .dest .at G R k) (y .dest);
-          sprt = shared-is s q _ _ _ (last SPRT) (scope SPRT) e5 (w .last .sprt .at G R k) (y .sprt);
-          camg = shared-is s q _ _ _ (last CAMG) (scope CAMG) e6 (w .last .camg .at G R k) (y .camg);
+          bmhd = bmhd .at s (last BMHD) (scope BMHD) (w .last .bmhd .at G R k) (y .bmhd);
+          cmap = cmap .at s (last CMAP) (scope CMAP) (w .last .cmap .at G R k) (y .cmap);
+          grab = grab .at s (last GRAB) (scope GRAB) (w .last .grab .at G R k) (y .grab);
+          dest = dest .at s (last DEST) (scope DEST) (w .last .dest .at G R k) (y .dest);
+          sprt = sprt .at s (last SPRT) (scope SPRT) (w .last .sprt .at G R k) (y .sprt);
+          camg = camg .at s (last CAMG) (scope CAMG) (w .last .camg .at G R k) (y .camg);
         }
 
 -- the chunks still to come give the scope that is looked for

@@ -9,18 +9,20 @@ use native.Mathlib.Numerals.{sub-one}
 use Rattle.iff_name.specs.Name.{kindOf}
 use Rattle.iff_name.specs.declared.Kind.{Kind}
 use Rattle.iff_chunk.specs.Chunks.{Chunks, none, leaf, group, bytes, word}
-use Rattle.iff_rules.specs.Rules.{isGroup}
+use Rattle.iff_rules.specs.Rules.{isSection}
+use Rattle.iff_grammar.specs.Read.{Flat}
+use Rattle.iff_grammar.specs.laws.Names.{section-group, prop-name}
 use Rattle.iff_grammar.specs.laws.Read.{length-leaf, length-group}
 use Rattle.ilbm_spec.specs.Names.{isPicture}
 use Rattle.ilbm_spec.specs.Contents.{Scope as Shares, scopeInside, Content, contentOf, contentsFrom}
 use Rattle.ilbm_members.specs.declared.Sibling.{Sibling}
-use Rattle.ilbm_members.specs.Members.{Holds, Front, Tells}
+use Rattle.ilbm_members.specs.Members.{Holds, Row, Front, Tells}
 use Rattle.ilbm_locate.specs.declared.Spot.{Spot}
 use Rattle.ilbm_locate.specs.declared.Spot.the-variants.{Here, Left}
 use Rattle.ilbm_locate.specs.Spots.{Spotted, groupIs, contentsHere, Seeks, Visits, Enters, IsGroup, GroupAt}
 use Rattle.ilbm_locate.specs.Scopes.{ScopeIs, Scoped, GivesInside}
 use Rattle.ilbm_locate.specs.declared.Scope.{Scope}
-use Rattle.ilbm_locate.proofs.Laws.{never, empty, inner-holds, opens-here, name-here, leaf-no-group, leaf-known, group-is}
+use Rattle.ilbm_locate.proofs.Laws.{never, empty, inner-holds, opens-here, name-here, leaf-no-group, group-is}
 use Rattle.ilbm_members.proofs.Laws.{row-next, row-le, more-room, more-less, leaf-steps, group-steps}
 
 -- what is dropped stays in front of what follows
@@ -35,6 +37,13 @@ drop-before (suc k) (c ∷ cs) ds x rest e = drop-before k cs ds x rest e
 spotted-past : (s : List ℕ) (k : ℕ) (x : Content) (cs : List Content) (r : Spot) → Spotted s k cs r → Spotted s (suc k) (x ∷ cs) r
 spotted-past s k x cs (Here f g) w = w
 spotted-past s k x cs (Left m) w = w
+
+-- where there are no groups there are no pictures
+flat-contents : (F : Chunks) → Flat F → (p : ℕ) (scope : Shares) → contentsFrom p scope F ≡ []
+unfolding contentsFrom
+flat-contents none f p scope = refl
+flat-contents (leaf n d pd F) f p scope = flat-contents F f _ scope
+flat-contents (group n t G F) f p scope = absurd f
 
 module _ (s : List ℕ) (q e : ℕ) (prop : Scope) where
   spotted-here : (b : Bool) (k : ℕ) → IsGroup s q e isPicture b → b ≡ true → k ≡ 0 → Visits s q e prop k (Here q prop)
@@ -83,14 +92,17 @@ module _ (s : List ℕ) (q e : ℕ) (prop : Scope) where
     pub no-picture-here : (k : ℕ) (r : Spot) → b ≡ false → Enters s q e prop k r → Visits s q e prop k r
     no-picture-here k r z x = spotted-inside b k r a (group-is s q e n t isPicture b a i j y) z x
 
-  pub leaf-visited : (k : ℕ) → isGroup (kindOf (word s q)) ≡ false → Visits s q e prop k (Left k)
-  leaf-visited k g = record { at = go }
+  pub none-visited : (k : ℕ) → isSection (kindOf (word s q)) ≡ false → Visits s q e prop k (Left k)
+  none-visited k g = record { at = go }
     where
       go : (F : Chunks) (R : List ℕ) (scope : Shares) → Holds s q e F R → ScopeIs s prop scope →
           Spotted s k (contentsHere q scope F) (Left k)
       go none R scope h c Y = refl
       go (leaf n d pd F) R scope h c Y = refl
-      go (group n t G F) R scope h c Y = never (sym (h .regular .0) ∙ (rw (name-here s q e n t G F R h) at g))
+      go (group n t G F) R scope h c Y =
+          let y : isSection (kindOf n) ≡ false = rw (name-here s q e n t G F R h) at g in
+          let p = prop-name n (h .regular .0) y in
+          rw (p, flat-contents G (h .regular .5 p) (q + 12) scope)
 
   -- what is inside a group
   module _ (scope' : Scope) (x : GivesInside s q e prop scope') where
@@ -186,14 +198,17 @@ module _ (s : List ℕ) (p e : ℕ) (prop : Scope) (k : ℕ) where
       go F scope (leaf n d pd K) R h u = absurd (omega (arith, length-leaf n d pd K, h .ends))
       go F scope (group n x G K) R h u = absurd (omega (arith, length-group n x G K, h .ends))
 
-pub leaf-passed :
-    (s : List ℕ) (q e : ℕ) (prop : Scope) (k n : ℕ) (i : Kind) (b : Bool) → n ≡ word s q → i ≡ kindOf n → b ≡ isGroup i → b ≡ false →
-    Visits s q e prop k (Left k)
-leaf-passed s q e prop k n i b x y z g = leaf-visited s q e prop k (leaf-known s q n x i y b z g)
+-- what the test of a member's name tells
+module _ (s : List ℕ) (q e n : ℕ) (x : n ≡ word s q) (i : Kind) (y : i ≡ kindOf n) (b : Bool) (z : b ≡ isSection i) where
+  pub section-at : Row s q e → q < e → b ≡ true → GroupAt s q e
+  section-at r l g = (r, l, section-group (kindOf (word s q)) (rw (← x, ← y, ← z) g))
+
+  pub none-passed : (prop : Scope) (k : ℕ) → b ≡ false → Visits s q e prop k (Left k)
+  none-passed prop k g = none-visited s q e prop k (rw (← x, ← y, ← z) g)
 
 pub visit-less : (p e q : ℕ) → p ≤ q → q < e → (e - q) * 4 + 2 < (e - p) * 4 + 3
 visit-less p e q h l = omega arith
 
 pub ruleset seek-laws = (passing-start, passing-more, passing-here, visit-less, row-next, more-room, more-less, row-le)
 
-pub ruleset visit-laws = (picture-here, picture-later, no-picture-here, leaf-passed, entered, entered-scope)
+pub ruleset visit-laws = (picture-here, picture-later, no-picture-here, section-at, none-passed, entered, entered-scope)

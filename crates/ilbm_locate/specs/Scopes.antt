@@ -2,12 +2,10 @@
 use Prim.Native.Nat.{ℕ, _+_}
 use mathlib.Core.Path.{_≡_}
 use mathlib.Core.List.{List}
-use mathlib.Core.Option.{some}
-use lib.Dec.{eqb}
-use Rattle.iff_name.specs.Name.{pick}
+use mathlib.Core.Option.{Option, some}
 use Rattle.iff_chunk.specs.Chunks.{Chunks, group, word}
 use Rattle.ilbm_spec.specs.Names.{BMHD, CMAP, GRAB, DEST, SPRT, CAMG}
-use Rattle.ilbm_spec.specs.Contents.{Property, own, shared, absent, Scope as Shares, propScope, listScope, scopeInside}
+use Rattle.ilbm_spec.specs.Contents.{Located, Property, own, shared, absent, sharedOr, Scope as Shares, propScope, listScope, scopeInside}
 use Rattle.ilbm_members.specs.Members.{Holds, Marks}
 use Rattle.ilbm_locate.specs.declared.Shared.{Shared}
 use Rattle.ilbm_locate.specs.declared.Scope.{Scope}
@@ -41,9 +39,9 @@ noneShared =
       camg = record { prop = 0; place = 0 };
     }
 
--- the chunk at a place in the PROP at q, or what is shared further out where the place is 0
-abbrev pub nearer : ℕ → ℕ → Shared → Shared
-nearer q place outer = pick (eqb place 0) outer (record { prop = q; place = place })
+-- r tells the property at a place k in the PROP at q, or, where there is none, the outer one, which h tells
+pub record Nearer (q k : ℕ) (h r : Shared) : Type 0 where
+  pub at : (s : List ℕ) (o : Option Located) (outer : Property) → Marks s k o → SharedIs s h outer → SharedIs s r (sharedOr q o outer)
 
 -- r tells the scope that the PROP at q makes, where c tells the scope around its LIST
 pub record PropGives (s : List ℕ) (q : ℕ) (c r : Scope) : Type 0 where

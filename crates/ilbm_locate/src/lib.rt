@@ -3,6 +3,7 @@ use iff_chunk::name_at;
 use iff_chunk::size_at;
 use iff_name::Name;
 use iff_rules::is_group;
+use iff_rules::is_section;
 use ilbm_members::gather;
 use ilbm_members::sibling_at;
 use ilbm_names::is_picture;
@@ -11,7 +12,7 @@ ghost use Prim.Native.Nat.{_+_, _<_};
 ghost use mathlib.Core.Path.{_≡_};
 ghost use Rattle.ilbm_spec.specs.Names.{isSharedProp};
 ghost use Rattle.ilbm_members.specs.Members.{Row};
-ghost use Rattle.ilbm_locate.specs.Scopes.{noneShared, nearer, Scoped, PropGives, ListGives, GivesInside};
+ghost use Rattle.ilbm_locate.specs.Scopes.{noneShared, Scoped, Nearer, PropGives, ListGives, GivesInside};
 ghost use Rattle.ilbm_locate.specs.Spots.{Seeks, Visits, Enters, IsGroup, GroupAt};
 
 // A property that a PROP shares: the PROP's place, and the property's own, 0 for none.
@@ -65,7 +66,7 @@ fn shared_prop_at(s: &[u8], q: usize, e: usize) -> bool
 
 // The property at a place in the PROP at q, or, where the PROP has none, the one shared further out.
 fn nearer_of(q: usize, place: usize, outer: Shared) -> Shared
-    ensures { λ r. ⌜ r ≡ nearer q place outer ⌝ }
+    ensures { λ r. ⌜ Nearer q place outer r ⌝ }
 {
     if place == 0 {
         outer
@@ -148,13 +149,13 @@ fn open(s: &[u8], q: usize, e: usize, scope: Scope, k: usize) -> Spot
     enter(s, q, e, scope, k)
 }
 
-// The same for any member.
+// The same for any member: leaves and PROPs hold no pictures.
 fn visit(s: &[u8], q: usize, e: usize, scope: Scope, k: usize) -> Spot
     requires { ⌜ (Row (now s) q e) × (q < e) × (Scoped (now s) scope) ⌝ }
     ensures { λ r. ⌜ Visits (now (s .entry)) q e scope k r ⌝ }
 {
     let n = name_at(s, q);
-    if is_group(n.kind()) {
+    if is_section(n.kind()) {
         return open(s, q, e, scope, k);
     }
     Spot::Left(k)

@@ -3,7 +3,7 @@
 use Prim.Native.Nat.{ℕ, _<_}
 use mathlib.Core.Path.{_≡_, refl, sym, subst}
 use mathlib.Core.Bool.{Bool, true, false, not}
-use mathlib.Core.List.{List}
+use mathlib.Core.List.{List, []}
 use native.Mathlib.Omega.{arith}
 use lib.Dec.{leb, eqb}
 use borrow.Author.Tests.{leb-true, eqb-true, not-true}
@@ -14,9 +14,9 @@ use Rattle.iff_name.specs.declared.Kind.the-variants.{FORM, LIST, CAT, PROP, FI
 use Rattle.iff_rules.specs.declared.Position.{Position}
 use Rattle.iff_rules.specs.declared.Position.the-variants.{Outermost, InForm, InProp, InList, InCat}
 use Rattle.iff_chunk.specs.Chunks.{Chunks, none, leaf, group}
-use Rattle.iff_rules.specs.Rules.{isGroup, isSection, after, groupType}
+use Rattle.iff_rules.specs.Rules.{isGroup, isSection, allowed, inside, after, groupType}
 use Rattle.iff_grammar.specs.Grammar.{chunkName, member, seenAfter, Members}
-use Rattle.iff_grammar.specs.Read.{Regular}
+use Rattle.iff_grammar.specs.Read.{Flat, Regular}
 use Rattle.iff_name.specs.Codes as Codes
 
 pub both-true : (a b : Bool) → both a b ≡ true → (a ≡ true) × (b ≡ true)
@@ -117,6 +117,38 @@ section-group PROP e = refl
 section-group FILLER e = e
 section-group LOCAL e = e
 
+-- the only other group is a PROP
+pub prop-name : (n : ℕ) → isGroup (kindOf n) ≡ true → isSection (kindOf n) ≡ false → n ≡ Codes.PROP
+unfolding kindOf
+prop-name n g s = go (eqb n Codes.FORM) (eqb n Codes.LIST) (eqb n Codes.CAT) (eqb n Codes.PROP) (eqb n Codes.FILLER) refl g s
+  where
+    go : (a b c d e : Bool) → eqb n Codes.PROP ≡ d → isGroup (pick a FORM (pick b LIST (pick c CAT (pick d PROP (pick e FILLER LOCAL))))) ≡ true
+        → isSection (pick a FORM (pick b LIST (pick c CAT (pick d PROP (pick e FILLER LOCAL))))) ≡ false → n ≡ Codes.PROP
+    go true b c d e ed g s = absurd (let z : _≡_ {A = ℕ} 0 1 = cc in omega arith)
+    go false true c d e ed g s = absurd (let z : _≡_ {A = ℕ} 0 1 = cc in omega arith)
+    go false false true d e ed g s = absurd (let z : _≡_ {A = ℕ} 0 1 = cc in omega arith)
+    go false false false true e ed g s = eqb-true n Codes.PROP ed
+    go false false false false true ed g s = absurd (let z : _≡_ {A = ℕ} 0 1 = cc in omega arith)
+    go false false false false false ed g s = absurd (let z : _≡_ {A = ℕ} 0 1 = cc in omega arith)
+
+-- nothing in a PROP is a group
+no-group-in-prop : (k : Kind) → isGroup k ≡ true → allowed InProp k ≡ true → ⊥
+no-group-in-prop FORM g a = let z : _≡_ {A = ℕ} 0 1 = cc in omega arith
+no-group-in-prop LIST g a = let z : _≡_ {A = ℕ} 0 1 = cc in omega arith
+no-group-in-prop CAT g a = let z : _≡_ {A = ℕ} 0 1 = cc in omega arith
+no-group-in-prop PROP g a = let z : _≡_ {A = ℕ} 0 1 = cc in omega arith
+no-group-in-prop FILLER g a = let z : _≡_ {A = ℕ} 0 1 = cc in omega arith
+no-group-in-prop LOCAL g a = let z : _≡_ {A = ℕ} 0 1 = cc in omega arith
+
+prop-flat : (seen : List ℕ) (F : Chunks) → Members InProp seen F → Flat F
+prop-flat seen none m = tt
+prop-flat seen (leaf n d p F) m = prop-flat seen F (m .4)
+prop-flat seen (group n t G F) m = no-group-in-prop (kindOf n) (m .0) (m .1)
+
+flat-in-prop : (n : ℕ) (G : Chunks) → Members (inside (kindOf n)) [] G → n ≡ Codes.PROP → Flat G
+unfolding kindOf
+flat-in-prop n G m e = prop-flat [] G (rw e at m)
+
 -- chunks that may stand in a row read back as they are written
 pub members-regular : (w : Position) (seen : List ℕ) (F : Chunks) → Members w seen F → Regular F
 members-regular w seen none m = tt
@@ -127,4 +159,5 @@ members-regular w seen (group n t G F) m = (
   type-word (kindOf n) t (m .2),
   members-regular _ _ G (m .4),
   members-regular _ _ F (m .5),
+  flat-in-prop n G (m .4),
 )

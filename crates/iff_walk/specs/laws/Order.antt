@@ -24,7 +24,7 @@ pub join-regular : (F K : Chunks) → Regular F → Regular K → Regular (join 
 unfolding join
 join-regular none K r q = q
 join-regular (leaf n d p F) K r q = (r .0, r .1, r .2, join-regular F K (r .3) q)
-join-regular (group n t G F) K r q = (r .0, r .1, r .2, r .3, join-regular F K (r .4) q)
+join-regular (group n t G F) K r q = (r .0, r .1, r .2, r .3, join-regular F K (r .4) q, r .5)
 
 pub join-count : (F K : Chunks) → count (join F K) ≡ count F + count K
 unfolding join count

@@ -23,7 +23,7 @@ use Rattle.ilbm_locate.proofs.+enter+open+seek+visit.Lts-visit as visit
 use Rattle.ilbm_locate.proofs.inner_scope.Reads as inner-scope-reads
 use Rattle.ilbm_members.proofs.sibling_at.Reads as sibling-at-reads
 use Rattle.iff_name.proofs.Name.kind.Reads as kind-reads
-use Rattle.iff_rules.proofs.is_group.Reads as is-group-reads
+use Rattle.iff_rules.proofs.is_section.Reads as is-section-reads
 use Rattle.iff_chunk.proofs.name_at.Reads as name-at-reads
 use Rattle.iff_chunk.proofs.size_at.Reads as size-at-reads
 use Rattle.ilbm_names.proofs.is_picture.Reads as is-picture-reads
@@ -81,8 +81,8 @@ visit-calls t = (
   name-at-reads.Learnt,
   kind-reads.Asked,
   kind-reads.Learnt,
-  is-group-reads.Asked,
-  is-group-reads.Learnt,
+  is-section-reads.Asked,
+  is-section-reads.Learnt,
   open-below t,
   open.Post,
 )
@@ -183,8 +183,8 @@ visit-name-at-requires t c κs = search (group-laws, visit-laws, needs)
 visit-kind-requires : (t : ℕ) → visit-lts.Need-kind-requires (visit-calls t) (visit-at t) visit.Post
 visit-kind-requires t c κs = search (group-laws, visit-laws, needs)
 
-visit-is-group-requires : (t : ℕ) → visit-lts.Need-is-group-requires (visit-calls t) (visit-at t) visit.Post
-visit-is-group-requires t c κs = search (group-laws, visit-laws, needs)
+visit-is-section-requires : (t : ℕ) → visit-lts.Need-is-section-requires (visit-calls t) (visit-at t) visit.Post
+visit-is-section-requires t c κs = search (group-laws, visit-laws, needs)
 
 visit-open-requires : (t : ℕ) → visit-lts.Need-open-requires (visit-calls t) (visit-at t) visit.Post
 visit-open-requires t c κs = search (group-laws, visit-laws, needs)
@@ -242,7 +242,7 @@ pub +enter+open+seek+visit-spec : {M : Type 1} → statement M
     visit.Post
     (visit-name-at-requires t)
     (visit-kind-requires t)
-    (visit-is-group-requires t)
+    (visit-is-section-requires t)
     (visit-open-requires t)
     (visit-returns t)
     (visit-returns-2 t)
