@@ -38,7 +38,7 @@ abbrev CAT9 : ℕ
 CAT9 = 0x43415439
 
 -- w 1, h 1, one plane
-abbrev header : List ℕ
+abbrev pub header : List ℕ
 header = 0 ∷ 1 ∷ 0 ∷ 1 ∷ 0 ∷ 0 ∷ 0 ∷ 0 ∷ 1 ∷ 0 ∷ 0 ∷ 0 ∷ 0 ∷ 0 ∷ 1 ∷ 1 ∷ 0 ∷ 1 ∷ 0 ∷ 1 ∷ []
 
 -- a LIST of a PROP ILBM with a BMHD, a FORM ILBM and a CAT, both empty
@@ -52,10 +52,10 @@ file =
     (putWord FORM (putWord 4 (putWord ILBM
     (putWord CAT (putWord 4 (putWord JJJJ []))))))))))))))
 
-abbrev filler : Chunk
+abbrev pub filler : Chunk
 filler = aLeaf FILLER [] []
 
-abbrev local : Chunk
+abbrev pub local : Chunk
 local = aLeaf XXXX (7 ∷ []) (0 ∷ [])
 
 abbrev form : Chunk
@@ -101,7 +101,7 @@ unfolding readFile chunkAt run headerOf groupHeaderOf word wellFormed versionNam
 reads = refl
 
 -- one addition that may be made, within the two limits, and the others
-step : {A B C D : Type 0} → A → B → C → D → A × B × C × D
+pub step : {A B C D : Type 0} → A → B → C → D → A × B × C × D
 step a b c d = (a, b, c, d)
 
 may : MayAddAll additions tree file
@@ -137,11 +137,11 @@ prop-place : movedBy additions tree 12 ≡ 32
 unfolding movedBy insert boundaryPlace bytes
 prop-place = refl
 
-small : List ℕ → Bool
+unfoldable pub small : List ℕ → Bool
 small [] = true
 small (x ∷ xs) = both (ltb x 256) (small xs)
 
-small-bytes : (s : List ℕ) → small s ≡ true → Bytes s
+pub small-bytes : (s : List ℕ) → small s ≡ true → Bytes s
 unfolding small
 small-bytes [] e i = omega arith
 small-bytes (x ∷ xs) e zero = ltb-true x 256 (both-true (ltb x 256) (small xs) e .0)
