@@ -69,7 +69,8 @@ module _ (s : List ℕ) (q e : ℕ) (prop : Scope) where
       go (leaf n d pd F) R scope h c y = never (sym i ∙ y)
       go (group n t G F) R scope h c y =
           let v : isPicture n t ≡ true = sym y ∙ i in
-          rw v (spotted-past s k (contentOf q G scope) (contentsFrom (q + 12) (scopeInside n q G scope) G) r (rw sub-one at (w .at n t G F R scope h c)))
+          let x = rw sub-one at (w .at n t G F R scope h c) in
+          rw v (spotted-past s k (contentOf q G scope) (contentsFrom (q + 12) (scopeInside n q G scope) G) r x)
 
   spotted-inside : (b : Bool) (k : ℕ) (r : Spot) → GroupAt s q e → IsGroup s q e isPicture b → b ≡ false → Enters s q e prop k r →
       Visits s q e prop k r
@@ -168,7 +169,8 @@ split-any q scope none = ([], refl)
 split-any q scope (leaf n d pd K) = (contentsFrom (q + (8 + length d + length pd)) scope K, refl)
 split-any q scope (group n x G K) = (contentsFrom (q + (12 + length (bytes G))) scope K, rw append-assoc)
 
-module _ (s : List ℕ) (p e : ℕ) (prop : Scope) (k q left : ℕ) (v : Spot) (w : Passing s p e prop k q left) (y : Visits s q e prop left v) where
+module _
+    (s : List ℕ) (p e : ℕ) (prop : Scope) (k q left : ℕ) (v : Spot) (w : Passing s p e prop k q left) (y : Visits s q e prop left v) where
   pub passing-here : (f : ℕ) (g : Scope) → v ≡ Here f g → Seeks s p e prop k (Here f g)
   passing-here f g i = record { at = go }
     where

@@ -182,7 +182,8 @@ view-after = refl
 
 -- a name over the FORM in the FORM ILBM, and one over the local chunk in the FORM in the LIST, which stands before it
 
-version-names : AllRefused (renamed (record { place = 124; name = FOR1 } ∷ record { place = 102; name = CAT9 } ∷ []) (fileAfter additions tree file)) 102
+version-names :
+    AllRefused (renamed (record { place = 124; name = FOR1 } ∷ record { place = 102; name = CAT9 } ∷ []) (fileAfter additions tree file)) 102
 unfolding lowest versionName addedHeaders movedBy headersFrom insert boundaryPlace bytes
 version-names = unchanged .renaming (record { place = 124; name = FOR1 }) (record { place = 102; name = CAT9 } ∷ []) (
   refl,

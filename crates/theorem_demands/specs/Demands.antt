@@ -75,6 +75,7 @@ pub written-reads-back :
 written-reads-back = RoundTrip.round-trip
 
 -- Demand 3. Whatever a later writer adds, list of additions and all: the file is still accepted, every call on every picture
--- answers as before but for the moved place of a shared PROP, and version names over added headers give 3 at the first of them.
+-- answers as before, but that the place told for a PROP moves by the bytes put before that PROP, and version names over added headers
+-- give 3 at the first of them.
 pub unchanged-by-additions : Statement.Demand3
 unchanged-by-additions = Additions.demand3

@@ -92,7 +92,9 @@ seen-leaf FILLER t seen e = refl
 seen-leaf LOCAL t seen e = refl
 
 -- a chunk of any name adds a type to the types of PROPs exactly if it is a PROP
-pub seen-member : (n t u : ℕ) (seen : List ℕ) → member u (seenAfter (kindOf n) t seen) ≡ either (both (eqb n Codes.PROP) (eqb t u)) (member u seen)
+pub seen-member :
+    (n t u : ℕ) (seen : List ℕ) →
+    member u (seenAfter (kindOf n) t seen) ≡ either (both (eqb n Codes.PROP) (eqb t u)) (member u seen)
 unfolding kindOf
 seen-member n t u seen =
     go (eqb n Codes.FORM) (eqb n Codes.LIST) (eqb n Codes.CAT) (eqb n Codes.PROP) (eqb n Codes.FILLER) refl refl refl refl
@@ -122,8 +124,10 @@ pub prop-name : (n : ℕ) → isGroup (kindOf n) ≡ true → isSection (kindOf 
 unfolding kindOf
 prop-name n g s = go (eqb n Codes.FORM) (eqb n Codes.LIST) (eqb n Codes.CAT) (eqb n Codes.PROP) (eqb n Codes.FILLER) refl g s
   where
-    go : (a b c d e : Bool) → eqb n Codes.PROP ≡ d → isGroup (pick a FORM (pick b LIST (pick c CAT (pick d PROP (pick e FILLER LOCAL))))) ≡ true
-        → isSection (pick a FORM (pick b LIST (pick c CAT (pick d PROP (pick e FILLER LOCAL))))) ≡ false → n ≡ Codes.PROP
+    go :
+        (a b c d e : Bool) → eqb n Codes.PROP ≡ d →
+        isGroup (pick a FORM (pick b LIST (pick c CAT (pick d PROP (pick e FILLER LOCAL))))) ≡ true →
+        isSection (pick a FORM (pick b LIST (pick c CAT (pick d PROP (pick e FILLER LOCAL))))) ≡ false → n ≡ Codes.PROP
     go true b c d e ed g s = absurd (let z : _≡_ {A = ℕ} 0 1 = cc in omega arith)
     go false true c d e ed g s = absurd (let z : _≡_ {A = ℕ} 0 1 = cc in omega arith)
     go false false true d e ed g s = absurd (let z : _≡_ {A = ℕ} 0 1 = cc in omega arith)

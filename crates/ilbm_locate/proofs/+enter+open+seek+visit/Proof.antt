@@ -171,7 +171,8 @@ seek-loop-less t c = search (seek-laws, needs)
 seek-loop-again : (t : ℕ) → seek-lts.Need-loop-again (seek-calls t) (seek-at t) seek.Post seek-Inv-loop seek-μ-loop
 seek-loop-again t c =
     let v = c .before .before .before .before in
-    let going = passing-more _ _ _ _ (c .sibling-at .ensures) _ _ _ _ _ (v .before .before .loop .inv .3) (v .visit .ensures) _ (c .before .before .v2 .given .1) in
+    let going = passing-more _ _ _ _ (c .sibling-at .ensures) _ _ _ _ _ (v .before .before .loop .inv .3) (v .visit .ensures) _
+    (c .before .before .v2 .given .1) in
     (search (seek-laws, needs), search (seek-laws, needs), search (seek-laws, needs), going)
 
 seek-returns-2 : (t : ℕ) → seek-lts.Need-returns-2 (seek-calls t) (seek-at t) seek.Post seek-Inv-loop seek-μ-loop

@@ -98,7 +98,8 @@ place-high (into i) (group n t G F) p h = omega (arith, place-high i G (p + 12) 
 -- what follows an addition inside the first group
 behind :
     (i : Boundary) (X : Chunk) (G F : Chunks) → At i G → (p : ℕ) →
-    ChunksMove (moved (boundaryPlace i (p + 12) G) (length (bytesOf X))) (p + (12 + length (bytes G))) (p + (12 + length (bytes (insert i X G)))) F
+    ChunksMove (moved (boundaryPlace i (p + 12) G) (length (bytesOf X)))
+    (p + (12 + length (bytes G))) (p + (12 + length (bytes (insert i X G)))) F
 behind i X G F h p =
     let high = place-high i G (p + 12) h in
     let len = length-insert i X G h in
