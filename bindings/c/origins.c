@@ -5,7 +5,8 @@
 
 #include "florinhado.h"
 
-#define LONGEST 16777216
+/* One byte more than a file may have: no need to read on. */
+#define ENOUGH (16777216 + 1)
 
 static void print_origin(const char *what, size_t origin, size_t shared)
 {
@@ -15,7 +16,7 @@ static void print_origin(const char *what, size_t origin, size_t shared)
         printf(", %s %s", what, origin == ILBM_OWN ? "of its own" : "absent");
 }
 
-static size_t print_picture(const uint8_t *file, size_t length, size_t picture)
+static void print_picture(const uint8_t *file, size_t length, size_t picture)
 {
     uint16_t w, h, transparent;
     int16_t x, y, page_width, page_height;
@@ -25,29 +26,45 @@ static size_t print_picture(const uint8_t *file, size_t length, size_t picture)
                                 &compression, &pad1, &transparent, &x_aspect, &y_aspect, &page_width,
                                 &page_height, &origin, &shared);
 
-    if (answer != 0)
-        return answer;
+    if (answer != 0) {
+        printf("picture %zu: refusal %zu\n", picture, answer);
+        return;
+    }
     printf("picture %zu: %d by %d", picture, w, h);
     print_origin("header", origin, shared);
-    answer = ilbm_palette(file, length, picture, &place, &origin, &shared, &from, &to);
+    ilbm_palette(file, length, picture, &place, &origin, &shared, &from, &to);
     print_origin("palette", origin, shared);
     printf(", %zu colours\n", (to - from) / 3);
-    return answer;
+}
+
+static int print_pictures(const uint8_t *file, size_t length)
+{
+    size_t place, pictures, picture;
+    size_t answer = iff_count_pictures(file, length, &place, &pictures);
+
+    if (answer != 0) {
+        printf("refusal %zu at %zu\n", answer, place);
+        return 1;
+    }
+    for (picture = 0; picture < pictures; picture++)
+        print_picture(file, length, picture);
+    return 0;
 }
 
 int main(int count, char **words)
 {
-    uint8_t *file = malloc(LONGEST);
     FILE *stream = count == 2 ? fopen(words[1], "rb") : NULL;
-    size_t length, picture = 0, answer;
+    uint8_t *file = malloc(ENOUGH);
+    size_t length;
+    int status;
 
-    if (file == NULL || stream == NULL)
+    if (stream == NULL || file == NULL) {
+        fprintf(stderr, "use: origins FILE\n");
         return 2;
-    length = fread(file, 1, LONGEST, stream);
-    while ((answer = print_picture(file, length, picture)) == 0)
-        picture++;
-    printf("answer=%zu\n", answer);
+    }
+    length = fread(file, 1, ENOUGH, stream);
+    status = ferror(stream) ? 2 : print_pictures(file, length);
     fclose(stream);
     free(file);
-    return answer != 20;
+    return status;
 }

@@ -19,6 +19,9 @@ use Rattle.iff_grammar.specs.Grammar.{chunkName, member, seenAfter, Memb
 use Rattle.iff_grammar.specs.Read.{Flat, Regular}
 use Rattle.iff_name.specs.Codes as Codes
 
+never : {A : Type 0} → false ≡ true → A
+never e = absurd (let z : _≡_ {A = ℕ} 0 1 = cc in omega arith)
+
 pub both-true : (a b : Bool) → both a b ≡ true → (a ≡ true) × (b ≡ true)
 both-true true b e = (refl, e)
 both-true false b e = (e, cc)
@@ -38,8 +41,8 @@ type-word FORM t e = well-formed-word t (both-true (wellFormed t) _ (both-true _
 type-word LIST t e = well-formed-word t e
 type-word CAT t e = well-formed-word t e
 type-word PROP t e = well-formed-word t (both-true (wellFormed t) _ (both-true _ _ e .0) .0)
-type-word FILLER t e = let z : _≡_ {A = ℕ} 0 1 = cc in omega arith
-type-word LOCAL t e = let z : _≡_ {A = ℕ} 0 1 = cc in omega arith
+type-word FILLER t e = never e
+type-word LOCAL t e = never e
 
 -- what the name of a chunk is and is not
 pub name-parts : (n : ℕ) → chunkName n ≡ true → (wellFormed n ≡ true) × (versionName n ≡ false) × (eqb n JJJJ ≡ false)
@@ -63,8 +66,8 @@ group-names P pf pl pc pp n h =
     go false true c d e ea eb ec ed x = subst P (sym (eqb-true n Codes.LIST eb)) pl
     go false false true d e ea eb ec ed x = subst P (sym (eqb-true n Codes.CAT ec)) pc
     go false false false true e ea eb ec ed x = subst P (sym (eqb-true n Codes.PROP ed)) pp
-    go false false false false true ea eb ec ed x = let z : _≡_ {A = ℕ} 0 1 = cc in absurd (omega arith)
-    go false false false false false ea eb ec ed x = let z : _≡_ {A = ℕ} 0 1 = cc in absurd (omega arith)
+    go false false false false true ea eb ec ed x = never x
+    go false false false false false ea eb ec ed x = never x
 
 pub group-chunk-name : (n : ℕ) → isGroup (kindOf n) ≡ true → chunkName n ≡ true
 unfolding wellFormed versionName
@@ -122,32 +125,15 @@ section-group LOCAL e = e
 -- the only other group is a PROP
 pub prop-name : (n : ℕ) → isGroup (kindOf n) ≡ true → isSection (kindOf n) ≡ false → n ≡ Codes.PROP
 unfolding kindOf
-prop-name n g s = go (eqb n Codes.FORM) (eqb n Codes.LIST) (eqb n Codes.CAT) (eqb n Codes.PROP) (eqb n Codes.FILLER) refl g s
-  where
-    go :
-        (a b c d e : Bool) → eqb n Codes.PROP ≡ d →
-        isGroup (pick a FORM (pick b LIST (pick c CAT (pick d PROP (pick e FILLER LOCAL))))) ≡ true →
-        isSection (pick a FORM (pick b LIST (pick c CAT (pick d PROP (pick e FILLER LOCAL))))) ≡ false → n ≡ Codes.PROP
-    go true b c d e ed g s = absurd (let z : _≡_ {A = ℕ} 0 1 = cc in omega arith)
-    go false true c d e ed g s = absurd (let z : _≡_ {A = ℕ} 0 1 = cc in omega arith)
-    go false false true d e ed g s = absurd (let z : _≡_ {A = ℕ} 0 1 = cc in omega arith)
-    go false false false true e ed g s = eqb-true n Codes.PROP ed
-    go false false false false true ed g s = absurd (let z : _≡_ {A = ℕ} 0 1 = cc in omega arith)
-    go false false false false false ed g s = absurd (let z : _≡_ {A = ℕ} 0 1 = cc in omega arith)
+prop-name n = group-names (λ (m : ℕ). isSection (kindOf m) ≡ false → m ≡ Codes.PROP)
+    (λ e. never (sym e)) (λ e. never (sym e)) (λ e. never (sym e)) (λ e. refl) n
 
 -- nothing in a PROP is a group
-no-group-in-prop : (k : Kind) → isGroup k ≡ true → allowed InProp k ≡ true → ⊥
-no-group-in-prop FORM g a = let z : _≡_ {A = ℕ} 0 1 = cc in omega arith
-no-group-in-prop LIST g a = let z : _≡_ {A = ℕ} 0 1 = cc in omega arith
-no-group-in-prop CAT g a = let z : _≡_ {A = ℕ} 0 1 = cc in omega arith
-no-group-in-prop PROP g a = let z : _≡_ {A = ℕ} 0 1 = cc in omega arith
-no-group-in-prop FILLER g a = let z : _≡_ {A = ℕ} 0 1 = cc in omega arith
-no-group-in-prop LOCAL g a = let z : _≡_ {A = ℕ} 0 1 = cc in omega arith
-
 prop-flat : (seen : List ℕ) (F : Chunks) → Members InProp seen F → Flat F
+unfolding kindOf
 prop-flat seen none m = tt
 prop-flat seen (leaf n d p F) m = prop-flat seen F (m .4)
-prop-flat seen (group n t G F) m = no-group-in-prop (kindOf n) (m .0) (m .1)
+prop-flat seen (group n t G F) m = group-names (λ (x : ℕ). allowed InProp (kindOf x) ≡ true → ⊥) never never never never n (m .0) (m .1)
 
 flat-in-prop : (n : ℕ) (G : Chunks) → Members (inside (kindOf n)) [] G → n ≡ Codes.PROP → Flat G
 unfolding kindOf
