@@ -54,7 +54,7 @@ def pictures(mask):
     yield "true24", sixteen, ["-24force"]
 
 
-REFUSED = {"map_only": 25, "planes9": 24, "direct15": 24, "true24": 24}
+REFUSED = {"map_only": 25, "planes9": 41, "direct15": 41, "true24": 41}
 
 
 def main():
@@ -67,7 +67,7 @@ def main():
         (folder / f"{name}.ilbm").write_bytes(file)
         if name in REFUSED:
             (folder / f"{name}.refused").write_text(f"{REFUSED[name]}\n")
-        if REFUSED.get(name) != 24:
+        if REFUSED.get(name) != 41:
             shown = run("ilbmtoppm", "-quiet", given=file)
             (folder / f"{name}.ppm").write_bytes(run("ppmtoppm", given=shown))
     mask.unlink()

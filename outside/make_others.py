@@ -18,7 +18,7 @@ from others import grafx2
 HERE = pathlib.Path(__file__).parent / "others"
 NAMES = "common-lang", "common-io", "common-image", "imageio-core", "imageio-iff"
 JARS = ":".join(f"/usr/share/java/{name}.jar" for name in NAMES)
-REFUSED = {"grafx2_bytes": 20, "pike_true24": 24, "java_packed": 7, "java_plain": 7}
+REFUSED = {"grafx2_bytes": 20, "pike_true24": 41, "java_packed": 7, "java_plain": 7}
 
 
 def chunk(name, data):

@@ -57,6 +57,21 @@ def two_levels():
     return group(b"LIST", b"ILBM", group(b"PROP", b"ILBM", header, greys), inner)
 
 
+def bmhd(width, planes, masking, compression):
+    """The header of a picture of two lines."""
+    sizes = width.to_bytes(2, "big") + b"\0\2" + bytes(4)
+    return chunk(b"BMHD", sizes + bytes([planes, masking, compression]) + bytes(9))
+
+
+def headers():
+    """Pictures that are refused with 41, 42, 43 and 24 for one field of the header, one
+    with all these faults, refused with 41, and one that is shown."""
+    rows = bytes.fromhex("a0006000 50009000")
+    fields = [(3, 9, 0, 0), (3, 2, 4, 0), (3, 2, 0, 2), (0, 2, 0, 0), (0, 255, 255, 255), (3, 2, 0, 0)]
+    pictures = [group(b"FORM", b"ILBM", bmhd(*one), chunk(b"BODY", rows)) for one in fields]
+    return group(b"CAT ", b"ILBM", *pictures)
+
+
 def accepted(chunks, end, trailing=0):
     return f"answer=0\nplace=0\nchunks={chunks}\nend={end}\ntrailing={trailing}\n"
 
@@ -71,6 +86,7 @@ def main():
     picture = run(sample, "picture")
     samples = {
         "form": (group(b"FORM", b"ILBM"), accepted(1, 12)),
+        "headers": (headers(), accepted(19, 348)),
         "nested": (nested(), accepted(15, 178, 8)),
         "picture": (picture, accepted(4, len(picture))),
         "second_prop": (second_prop(), "answer=12\nplace=24\n"),

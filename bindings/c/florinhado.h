@@ -157,8 +157,10 @@ size_t iff_count_pictures(const uint8_t *file, size_t file_length,
  *   22  more than one BODY directly in the FORM
  *   23  a property that counts has a wrong size (BMHD 20, CMAP a multiple of 3,
  *       GRAB 4, DEST 8, SPRT 2, CAMG 4)
- *   24  more than 8 planes, masking over 3, compression over 1, or a BODY with
- *       a width, height or number of planes of 0
+ *   41  nPlanes of BMHD over 8
+ *   42  masking of BMHD over 3
+ *   43  compression of BMHD over 1
+ *   24  w, h or nPlanes of BMHD 0, and there is a BODY
  *
  * Pictures have the numbers from 0 in file order. A property counts if it
  * stands directly in the picture's FORM before the first BODY; of several the
@@ -175,7 +177,7 @@ enum {
 
 /*
  * The calls for the properties below take and tell these beside the fields.
- * Refusals: 1 to 12, then 20 to 24.
+ * Refusals: 1 to 12, then those of pictures, above.
  *
  *   file, file_length  the file
  *   picture            the picture's number
@@ -332,6 +334,52 @@ size_t ilbm_write(uint16_t w, uint16_t h, int16_t x, int16_t y, uint8_t planes,
                   size_t palette_length, const uint8_t *frame,
                   size_t frame_length, uint8_t *out, size_t out_length,
                   size_t *length);
+
+/*
+ * The words for a number that a call returned: what is wrong, and with which
+ * field.
+ */
+static inline const char *florinhado_meaning(size_t number)
+{
+    switch (number) {
+    case 0: return "no refusal";
+    case 1: return "file longer than 16,777,216 bytes";
+    case 2: return "no FORM, LIST or CAT";
+    case 3: return "a version name, reserved for later standards";
+    case 4: return "fewer than 8 bytes left for a chunk";
+    case 5: return "name not well formed";
+    case 6: return "chunk not allowed here";
+    case 7: return "size greater than what the group or file has left";
+    case 8: return "odd size and no pad byte";
+    case 9: return "a group at level 17";
+    case 10: return "a group of size under 4";
+    case 11: return "type not allowed";
+    case 12: return "second PROP of the same type in this LIST";
+    case 13: return "fewer places in the table than chunks";
+    case 14: return "no such record";
+    case 15: return "a group, where a local chunk or filler is asked for";
+    case 20: return "no such picture";
+    case 21: return "no BMHD counts";
+    case 22: return "more than one BODY directly in the FORM";
+    case 23: return "a property has a wrong size";
+    case 24: return "w, h or nPlanes 0: a picture with a BODY has at least 1 of each";
+    case 25: return "rows asked and no BODY";
+    case 26: return "the BODY ends before the row is full";
+    case 27: return "a copy or repeat oversteps its row";
+    case 28: return "row or frame of a wrong length";
+    case 29: return "start place beyond the BODY's end";
+    case 31: return "a row to pack has 1 to 8,192 bytes";
+    case 32: return "result longer than the buffer";
+    case 33: return "header field, palette or frame that can't be written";
+    case 34: return "a colour number with more bits than planes";
+    case 35: return "result over 16,777,216 bytes";
+    case 40: return "more than 65,536 bytes of input";
+    case 41: return "nPlanes 9 or more: at most 8 planes are known";
+    case 42: return "masking 4 or more: only 0 to 3 are known";
+    case 43: return "compression 2 or more: only 0 and 1 are known";
+    default: return "unknown number";
+    }
+}
 
 #ifdef __cplusplus
 }

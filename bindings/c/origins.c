@@ -27,7 +27,7 @@ static void print_picture(const uint8_t *file, size_t length, size_t picture)
                                 &page_height, &origin, &shared);
 
     if (answer != 0) {
-        printf("picture %zu: refusal %zu\n", picture, answer);
+        printf("picture %zu: refusal %zu, %s\n", picture, answer, florinhado_meaning(answer));
         return;
     }
     printf("picture %zu: %d by %d", picture, w, h);
@@ -43,7 +43,7 @@ static int print_pictures(const uint8_t *file, size_t length)
     size_t answer = iff_count_pictures(file, length, &place, &pictures);
 
     if (answer != 0) {
-        printf("refusal %zu at %zu\n", answer, place);
+        printf("refusal %zu at %zu, %s\n", answer, place, florinhado_meaning(answer));
         return 1;
     }
     for (picture = 0; picture < pictures; picture++)

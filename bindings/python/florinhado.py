@@ -25,6 +25,27 @@ florinhado.Refused: refusal 21 at 0: no BMHD counts
 Traceback (most recent call last):
     ...
 florinhado.Refused: refusal 34 at 0: a colour number with more bits than planes
+
+Every call on a picture is refused by the file's structure, 1 to 12; then with 20 if there
+is no such picture, 21 if no BMHD counts, 22 for several BODYs, 23 for a property of a
+wrong size; then for the header: 41 nPlanes over 8, 42 masking over 3, 43 compression over
+1, 24 w, h or nPlanes 0 with a BODY. They are tried in this order. The calls on its rows
+have more: 25 for no BODY, 29 for a start place beyond its end, 27 and 26 with the place in
+the BODY.
+
+>>> file = pathlib.Path("../../samples/headers.iff").read_bytes()
+>>> frame(file, 2)
+Traceback (most recent call last):
+    ...
+florinhado.Refused: refusal 43 at 0: compression 2 or more: only 0 and 1 are known
+>>> def refusal(call, picture):
+...     try:
+...         call(file, picture)
+...     except Refused as refused:
+...         return refused.number
+>>> calls = header, grab, destination, sprite, view_mode, palette, scan_line, frame
+>>> [{refusal(call, picture) for call in calls} for picture in range(6)]
+[{41}, {42}, {43}, {24}, {41}, {None}]
 """
 
 import ctypes
@@ -53,7 +74,7 @@ MEANINGS = {
     21: "no BMHD counts",
     22: "more than one BODY directly in the FORM",
     23: "a property has a wrong size",
-    24: "a header field is out of range, or 0 with a BODY",
+    24: "w, h or nPlanes 0: a picture with a BODY has at least 1 of each",
     25: "rows asked and no BODY",
     26: "the BODY ends before the row is full",
     27: "a copy or repeat oversteps its row",
@@ -64,6 +85,10 @@ MEANINGS = {
     33: "header field, palette or frame that can't be written",
     34: "a colour number with more bits than planes",
     35: "result over 16,777,216 bytes",
+    40: "more than 65,536 bytes of input",
+    41: "nPlanes 9 or more: at most 8 planes are known",
+    42: "masking 4 or more: only 0 to 3 are known",
+    43: "compression 2 or more: only 0 and 1 are known",
 }
 
 
@@ -276,34 +301,33 @@ def _property(call, make, file, picture):
 
 
 def header(file, picture):
-    """The BMHD that counts for a picture; Refused with 20 to 24."""
+    """The BMHD that counts for a picture."""
     return _property(_ilbm_header, Header, file, picture)
 
 
 def grab(file, picture):
-    """The GRAB that counts for a picture; Refused with 20 to 24."""
+    """The GRAB that counts for a picture."""
     return _property(_ilbm_grab, HotSpot, file, picture)
 
 
 def destination(file, picture):
-    """The DEST that counts for a picture; Refused with 20 to 24."""
+    """The DEST that counts for a picture."""
     return _property(_ilbm_dest, Destination, file, picture)
 
 
 def sprite(file, picture):
-    """The sprite precedence that counts for a picture; Refused with 20 to 24."""
+    """The sprite precedence that counts for a picture."""
     return _property(_ilbm_sprite, int, file, picture)
 
 
 def view_mode(file, picture):
-    """The view modes that count for a picture; Refused with 20 to 24."""
+    """The view modes that count for a picture."""
     return _property(_ilbm_view_mode, int, file, picture)
 
 
 def palette(file, picture, default=b""):
-    """The CMAP that counts for a picture, or the default; Refused with 20 to 24.
+    """The CMAP that counts for a picture, or the default.
 
-    >>> import pathlib
     >>> file = pathlib.Path("../../samples/two_levels.iff").read_bytes()
     >>> palette(file, 39).shared, header(file, 39).shared
     (84, 12)
@@ -326,7 +350,7 @@ def scan_line(file, picture, start=0):
 
 
 def frame(file, picture):
-    """The colour numbers of all scan lines; Refused with 20 to 28."""
+    """The colour numbers of all scan lines."""
     file = bytes(file)
     told = header(file, picture).value
     size = told.width * told.height

@@ -7,8 +7,8 @@ use second::random::Random;
 /// One exported call.
 pub struct Call {
     pub name: &'static str,
-    /// Every number that it can answer.
-    pub numbers: &'static [usize],
+    /// Every number that it can answer, by sets.
+    pub numbers: &'static [&'static [usize]],
     /// Makes the call on a file, in several ways if it takes more than the
     /// file, and compares all that it tells with what the second reader tells.
     pub compare: fn(&Subject, &mut Random, &mut Tally) -> Outcome,

@@ -1,6 +1,7 @@
 //! iff_data.
 
 use crate::borrowed::{numbers, refused, same};
+use crate::numbers::STRUCTURE;
 use crate::{Call, Outcome, Subject, Tally};
 use florinhado::{calls, Refused};
 use second::random::Random;
@@ -8,8 +9,7 @@ use std::ops::Range;
 
 const NAME: &str = "iff_data";
 
-pub const CALL: Call =
-    Call { name: NAME, numbers: &[0, 1, 2, 3, 4, 5, 6, 7, 8, 9, 10, 11, 12, 14, 15], compare, run };
+pub const CALL: Call = Call { name: NAME, numbers: &[STRUCTURE, &[14, 15]], compare, run };
 
 /// Some chunks of the file may be groups.
 fn run(file: &[u8]) {

@@ -1,7 +1,8 @@
 //! `compare [SEED] [FILES]`: every call beside the second reader, on the
-//! worked examples, on changed samples and on generated files. Stops at the
-//! first difference.
+//! worked examples, on changed samples, on generated files and on headers with
+//! every set of faults. Stops at the first difference.
 
+use compare::faults::Faults;
 use compare::fixed::{examples, variations};
 use compare::{dump, worked, Origins, Subject, Tally};
 use second::generate;
@@ -22,16 +23,20 @@ fn main() -> ExitCode {
     let compared = compare_examples(&mut tally)
         .and_then(|()| compare_worked(&mut tally))
         .and_then(|()| compare_variations(&mut tally))
-        .and_then(|()| compare_generated(&mut tally, &mut origins, seed, files));
-    if let Err(text) = compared {
-        println!("{text}");
-        return ExitCode::FAILURE;
-    }
+        .and_then(|()| compare_generated(&mut tally, &mut origins, seed, files))
+        .and_then(|()| Faults::compare(&mut Random::new(seed)));
+    let faults = match compared {
+        Ok(faults) => faults,
+        Err(text) => {
+            println!("{text}");
+            return ExitCode::FAILURE;
+        }
+    };
     println!("seed {seed}, {files} files, no difference, {:.1} s", start.elapsed().as_secs_f64());
-    print!("{}{}", tally.text(), origins.text());
-    let (missing, rare) = (tally.missing(), origins.rare());
-    if files >= FILES && !(missing.is_empty() && rare.is_empty()) {
-        println!("never answered: {}; a hundred times or less: {}", missing.join(" "), rare.join(", "));
+    print!("{}{}{}", tally.text(), origins.text(), faults.text());
+    let rare = [tally.rare(), origins.rare(), faults.rare()].concat();
+    if files >= FILES && !rare.is_empty() {
+        println!("a hundred times or less: {}", rare.join(", "));
         return ExitCode::FAILURE;
     }
     ExitCode::SUCCESS

@@ -8,7 +8,7 @@ use second::random::Random;
 
 const NAME: &str = "byterun_pack";
 
-pub const CALL: Call = Call { name: NAME, numbers: &[0, 31, 32], compare, run };
+pub const CALL: Call = Call { name: NAME, numbers: &[&[0, 31, 32]], compare, run };
 
 /// The file's bytes are packed as rows.
 fn run(file: &[u8]) {

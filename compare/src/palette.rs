@@ -1,14 +1,15 @@
 //! ilbm_palette.
 
 use crate::borrowed::{numbers, refused, same};
-use crate::property::{each_picture, origin, origin_numbers, Asked, Told, NUMBERS};
+use crate::numbers::OF_PROPERTY;
+use crate::property::{each_picture, origin, origin_numbers, Asked, Told};
 use crate::{Call, Outcome, Subject, Tally};
 use florinhado::calls;
 use second::random::Random;
 
 const NAME: &str = "ilbm_palette";
 
-pub const CALL: Call = Call { name: NAME, numbers: NUMBERS, compare, run };
+pub const CALL: Call = Call { name: NAME, numbers: OF_PROPERTY, compare, run };
 
 /// The file may have no such picture.
 fn run(file: &[u8]) {

@@ -7,9 +7,6 @@ use second::random::Random;
 use second::Properties;
 use std::fmt::Debug;
 
-/// Every number that such a call can answer.
-pub const NUMBERS: &[usize] = &[0, 1, 2, 3, 4, 5, 6, 7, 8, 9, 10, 11, 12, 20, 21, 22, 23, 24];
-
 /// A picture that is asked for, with what the second reader tells of it.
 pub struct Asked<'a> {
     pub file: &'a [u8],

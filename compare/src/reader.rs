@@ -7,7 +7,7 @@ use second::random::Random;
 
 const NAME: &str = "listing_read";
 
-pub const CALL: Call = Call { name: NAME, numbers: &[0], compare, run };
+pub const CALL: Call = Call { name: NAME, numbers: &[&[0]], compare, run };
 
 fn run(file: &[u8]) {
     read(file);

@@ -1,6 +1,7 @@
 //! iff_record.
 
 use crate::borrowed::{numbers, refused, same};
+use crate::numbers::STRUCTURE;
 use crate::{Call, Outcome, Subject, Tally};
 use florinhado::{calls, Kind};
 use second::random::Random;
@@ -8,8 +9,7 @@ use second::{Record, Refused};
 
 const NAME: &str = "iff_record";
 
-pub const CALL: Call =
-    Call { name: NAME, numbers: &[0, 1, 2, 3, 4, 5, 6, 7, 8, 9, 10, 11, 12, 14], compare, run };
+pub const CALL: Call = Call { name: NAME, numbers: &[STRUCTURE, &[14]], compare, run };
 
 fn run(file: &[u8]) {
     florinhado::record(file, file.len() / 13).unwrap();

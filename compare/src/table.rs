@@ -2,6 +2,7 @@
 
 use crate::borrowed::{numbers, refused, same};
 use crate::listings::{fill, Table};
+use crate::numbers::STRUCTURE;
 use crate::record::{in_library, kind_number};
 use crate::{Call, Outcome, Subject, Tally};
 use florinhado::calls;
@@ -10,8 +11,7 @@ use second::Record;
 
 const NAME: &str = "iff_records";
 
-pub const CALL: Call =
-    Call { name: NAME, numbers: &[0, 1, 2, 3, 4, 5, 6, 7, 8, 9, 10, 11, 12, 13], compare, run };
+pub const CALL: Call = Call { name: NAME, numbers: &[STRUCTURE, &[13]], compare, run };
 
 fn run(file: &[u8]) {
     let chunks = florinhado::check(file).unwrap().chunks;

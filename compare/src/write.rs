@@ -12,7 +12,7 @@ const NAME: &str = "ilbm_write";
 /// One picture of so many is longer than a file may be.
 const OVERSIZE: usize = 40_000;
 
-pub const CALL: Call = Call { name: NAME, numbers: &[0, 32, 33, 34, 35], compare, run };
+pub const CALL: Call = Call { name: NAME, numbers: &[&[0, 32, 33, 34, 35]], compare, run };
 
 /// The file's bytes are written as a picture of 256 colours and 512 pixels a line.
 fn run(file: &[u8]) {

@@ -17,20 +17,44 @@ pub(crate) struct Plan {
 impl Plan {
     /// A plan that is mostly sound.
     pub fn of(random: &mut Random) -> Plan {
-        Plan {
+        let mut plan = Plan {
             width: width(random),
-            height: if random.one_in(60) { 0 } else { random.between(1, 4) as u16 },
-            planes: if random.one_in(30) {
-                random.pick(&[0, 9, 24, 255])
-            } else {
-                random.between(1, 8) as u8
-            },
-            masking: if random.one_in(30) {
-                random.pick(&[4, 255])
-            } else {
-                random.pick(&[0, 0, 1, 1, 2, 3])
-            },
-            compression: if random.one_in(30) { random.pick(&[2, 255]) } else { random.pick(&[0, 1, 1]) },
+            height: random.between(1, 4) as u16,
+            planes: random.between(1, 8) as u8,
+            masking: random.pick(&[0, 0, 1, 1, 2, 3]),
+            compression: random.pick(&[0, 1, 1]),
+        };
+        if random.one_in(9) {
+            plan.spoil(random);
+        }
+        if random.one_in(20) {
+            plan.empty(random);
+        }
+        plan
+    }
+
+    /// Fields with values that are refused, often several.
+    fn spoil(&mut self, random: &mut Random) {
+        if random.one_in(3) {
+            self.compression = random.pick(&[2, 3, 128, 255]);
+        }
+        if random.one_in(3) {
+            self.masking = random.pick(&[4, 5, 128, 255]);
+        }
+        if random.one_in(3) {
+            self.empty(random);
+        }
+        if random.one_in(3) {
+            self.planes = random.pick(&[9, 24, 128, 255]);
+        }
+    }
+
+    /// A picture of no pixels or no planes, which may not have a BODY.
+    fn empty(&mut self, random: &mut Random) {
+        match random.below(3) {
+            0 => self.width = 0,
+            1 => self.height = 0,
+            _ => self.planes = 0,
         }
     }
 
@@ -46,13 +70,12 @@ impl Plan {
 
 /// A width near a multiple of 8 or 16.
 fn width(random: &mut Random) -> u16 {
-    let near = [0, 1, 1, 2, 3, 7, 8, 9, 15, 16, 17, 23, 24, 25, 31, 32, 33, 47, 48, 49, 63, 64, 65];
+    let near = [1, 1, 2, 3, 7, 8, 9, 15, 16, 17, 23, 24, 25, 31, 32, 33, 47, 48, 49, 63, 64, 65];
     match random.below(40) {
-        0 => 0,
-        1 => random.between(250, 530) as u16,
+        0 | 1 => random.between(250, 530) as u16,
         2 => random.pick(&[2047, 2048, 2049]),
         3..=10 => random.between(1, 90) as u16,
-        _ => random.pick(&near[1..]),
+        _ => random.pick(&near),
     }
 }
 

@@ -32,7 +32,9 @@ pub use fields::{Destination, Grab, Header};
 pub use listing::{count_pictures, data, fill_table, listing_text, record, records, Record};
 pub use name::Name;
 pub use pack::{pack, LONGEST_ROW};
-pub use picture::{palette, properties, surroundings, Origin, Properties, Property, Surroundings};
+pub use picture::{
+    header_faults, palette, properties, surroundings, Origin, Properties, Property, Surroundings,
+};
 pub use rows::{frame, scan_line, Frame, ScanLine};
 pub use tree::{check, Chunk, Kind, Tree, LONGEST_FILE};
 pub use write::{write_picture, Fields};

@@ -1,4 +1,4 @@
-//! Pictures: properties with their origins, refusals 20 to 24, the palette.
+//! Pictures: properties with their origins, refusals, the palette.
 
 use crate::answer::Refused;
 use crate::fields::{read_destination, read_grab, read_header, Destination, Grab, Header, Reader};
@@ -52,7 +52,7 @@ struct Picture<'a> {
     shared: Vec<&'a Chunk>,
 }
 
-/// The properties of a picture, or the first of 1 to 12 and 20 to 24.
+/// The properties of a picture, or the first of 1 to 12, 20 to 23, 41 to 43 and 24.
 pub fn properties(file: &[u8], number: usize) -> Result<Properties, Refused> {
     let tree = Tree::read(file)?;
     nth_picture(&tree.outermost, number)?.properties(file)
@@ -73,6 +73,14 @@ pub fn surroundings(file: &[u8], number: usize) -> Result<Surroundings, Refused>
     let picture = nth_picture(&tree.outermost, number)?;
     let props = picture.shared.iter().rev().map(|prop| prop.place).collect();
     Ok(Surroundings { props, wrong: picture.wrong_sizes() })
+}
+
+/// Every number that a picture's header is refused for, in the order of the checks, of which the
+/// calls tell the first; or what a picture is refused for before its header is looked at.
+pub fn header_faults(file: &[u8], number: usize) -> Result<Vec<u32>, Refused> {
+    let tree = Tree::read(file)?;
+    let (header, _, body) = nth_picture(&tree.outermost, number)?.header(file)?;
+    Ok(faults(&header, body.is_some()))
 }
 
 fn nth_picture(outermost: &Chunk, number: usize) -> Result<Picture<'_>, Refused> {
@@ -108,18 +116,14 @@ fn collect<'a>(chunk: &'a Chunk, shared: &mut Vec<&'a Chunk>, pictures: &mut Vec
 
 impl<'a> Picture<'a> {
     fn properties(&self, file: &[u8]) -> Result<Properties, Refused> {
-        let header = self.property(Name::BMHD);
-        let header_chunk = header.value.ok_or(Refused::plain(21))?;
-        let body = self.only_body()?;
-        if !self.wrong_sizes().is_empty() {
-            return Err(Refused::plain(23));
+        let (header, header_origin, body) = self.header(file)?;
+        if let Some(number) = faults(&header, body.is_some()).first() {
+            return Err(Refused::plain(*number));
         }
         let read = |chunk: &Chunk| Reader(&file[data_range(chunk)]);
-        let header_fields = read_header(&mut read(header_chunk));
-        check_header(&header_fields, body.is_some())?;
         Ok(Properties {
-            header: header_fields,
-            header_origin: header.origin,
+            header,
+            header_origin,
             colour_map: self.property(Name::CMAP).map(data_range),
             grab: self.property(Name::GRAB).map(|chunk| read_grab(&mut read(chunk))),
             destination: self.property(Name::DEST).map(|chunk| read_destination(&mut read(chunk))),
@@ -127,6 +131,17 @@ impl<'a> Picture<'a> {
             view_modes: self.property(Name::CAMG).map(|chunk| read(chunk).u32()),
             body: body.map(data_range),
         })
+    }
+
+    /// The fields of the BMHD that counts, its origin, and the BODY; or 21, 22, 23.
+    fn header(&self, file: &[u8]) -> Result<(Header, Origin, Option<&'a Chunk>), Refused> {
+        let header = self.property(Name::BMHD);
+        let chunk = header.value.ok_or(Refused::plain(21))?;
+        let body = self.only_body()?;
+        if !self.wrong_sizes().is_empty() {
+            return Err(Refused::plain(23));
+        }
+        Ok((read_header(&mut Reader(&file[data_range(chunk)])), header.origin, body))
     }
 
     /// The property of this name that counts.
@@ -181,12 +196,14 @@ fn data_range(chunk: &Chunk) -> Range<usize> {
     chunk.data_start()..chunk.data_end()
 }
 
-/// 24 if a field lies outside what is read here.
-fn check_header(header: &Header, has_body: bool) -> Result<(), Refused> {
-    let unknown = header.planes > 8 || header.masking > 3 || header.compression > 1;
+/// "checked in the order 41, 42, 43, 24, where 24 stood": all that hold of a header.
+fn faults(header: &Header, has_body: bool) -> Vec<u32> {
     let empty = header.width == 0 || header.height == 0 || header.planes == 0;
-    if unknown || (has_body && empty) {
-        return Err(Refused::plain(24));
-    }
-    Ok(())
+    let checks = [
+        (41, header.planes > 8),
+        (42, header.masking > 3),
+        (43, header.compression > 1),
+        (24, has_body && empty),
+    ];
+    checks.into_iter().filter(|(_, holds)| *holds).map(|(number, _)| number).collect()
 }

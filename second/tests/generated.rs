@@ -125,7 +125,7 @@ fn picture_numbers() {
         assert!(line.is_err() || line.unwrap().colours.len() == row_length);
         tally.add(&frame(file, picture, frame_length));
     });
-    tally.needs([0].into_iter().chain(20..=29));
+    tally.needs([0].into_iter().chain(20..=29).chain(41..=43));
 }
 
 /// A frame is its scan lines in turn.

@@ -3,7 +3,7 @@
 mod common;
 
 use common::{chunk, form, group, header, refused};
-use second::{frame, palette, properties, scan_line, Frame, Origin, ScanLine};
+use second::{frame, header_faults, palette, properties, scan_line, Frame, Origin, ScanLine};
 
 fn prop(members: &[Vec<u8>]) -> Vec<u8> {
     group("PROP", "ILBM", members)
@@ -55,15 +55,27 @@ fn several_bodies_and_wrong_sizes() {
 #[test]
 fn fields_that_are_not_read() {
     let rows = |fields| number(properties(&picture(fields, b""), 0));
-    for fields in [header(1, 1, 9, 0, 0), header(1, 1, 1, 4, 0), header(1, 1, 1, 0, 2)] {
-        assert_eq!(number(properties(&form(std::slice::from_ref(&fields)), 0)), 24);
-        assert_eq!(rows(fields), 24);
+    for (wanted, fields) in [
+        (41, header(1, 1, 9, 0, 0)),
+        (41, header(0, 0, 255, 255, 255)),
+        (42, header(1, 1, 1, 4, 0)),
+        (42, header(0, 0, 0, 255, 255)),
+        (43, header(1, 1, 1, 0, 2)),
+        (43, header(0, 0, 0, 3, 255)),
+    ] {
+        assert_eq!(number(properties(&form(std::slice::from_ref(&fields)), 0)), wanted);
+        assert_eq!(rows(fields), wanted);
     }
     for fields in [header(0, 1, 1, 0, 0), header(1, 0, 1, 0, 0), header(1, 1, 0, 0, 0)] {
         assert!(properties(&form(std::slice::from_ref(&fields)), 0).is_ok());
         assert_eq!(rows(fields), 24);
     }
     assert!(properties(&picture(header(1, 1, 8, 3, 1), b""), 0).is_ok());
+    let faults = |fields| header_faults(&picture(fields, b""), 0).unwrap();
+    assert_eq!(faults(header(1, 1, 8, 3, 1)), []);
+    assert_eq!(faults(header(0, 1, 9, 4, 2)), [41, 42, 43, 24]);
+    assert_eq!(header_faults(&form(&[header(0, 1, 9, 4, 2)]), 0), Ok(vec![41, 42, 43]));
+    assert_eq!(header_faults(&form(&[]), 0), refused(21, 0));
 }
 
 #[test]

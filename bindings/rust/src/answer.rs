@@ -36,7 +36,7 @@ impl Refused {
             21 => "no BMHD counts",
             22 => "more than one BODY directly in the FORM",
             23 => "a property has a wrong size",
-            24 => "a header field is out of range, or 0 with a BODY",
+            24 => "w, h or nPlanes 0: a picture with a BODY has at least 1 of each",
             25 => "rows asked and no BODY",
             26 => "the BODY ends before the row is full",
             27 => "a copy or repeat oversteps its row",
@@ -48,6 +48,9 @@ impl Refused {
             34 => "a colour number with more bits than planes",
             35 => "result over 16,777,216 bytes",
             40 => "more than 65,536 bytes of input",
+            41 => "nPlanes 9 or more: at most 8 planes are known",
+            42 => "masking 4 or more: only 0 to 3 are known",
+            43 => "compression 2 or more: only 0 and 1 are known",
             _ => "unknown number",
         }
     }

@@ -284,7 +284,7 @@ pub fn iff_count_pictures(file: &[u8], place: &mut usize, pictures: &mut usize) 
     unsafe { exported::iff_count_pictures(file.as_ptr(), file.len(), place, pictures) }
 }
 
-/// Tells the BMHD that counts for a picture: 0, or 1 to 12 with the place, or 20 to 24.
+/// Tells the BMHD that counts for a picture: 0, or a number of a picture.
 /// The origin is 1 own, 2 shared by the PROP at `shared`, 0 absent.
 #[allow(clippy::too_many_arguments)]
 pub fn ilbm_header(
@@ -332,7 +332,7 @@ pub fn ilbm_header(
     }
 }
 
-/// Tells the GRAB that counts for a picture: 0, or 1 to 12 with the place, or 20 to 24.
+/// Tells the GRAB that counts for a picture: 0, or a number of a picture.
 /// The origin is as above; the fields of an absent property are 0.
 pub fn ilbm_grab(
     file: &[u8],
@@ -346,7 +346,7 @@ pub fn ilbm_grab(
     unsafe { exported::ilbm_grab(file.as_ptr(), file.len(), picture, place, x, y, origin, shared) }
 }
 
-/// Tells the DEST that counts for a picture: 0, or 1 to 12 with the place, or 20 to 24.
+/// Tells the DEST that counts for a picture: 0, or a number of a picture.
 /// The origin is as above; the fields of an absent property are 0.
 #[allow(clippy::too_many_arguments)]
 pub fn ilbm_dest(
@@ -378,7 +378,7 @@ pub fn ilbm_dest(
     }
 }
 
-/// Tells the SPRT that counts for a picture: 0, or 1 to 12 with the place, or 20 to 24.
+/// Tells the SPRT that counts for a picture: 0, or a number of a picture.
 /// The origin is as above; the fields of an absent property are 0.
 pub fn ilbm_sprite(
     file: &[u8],
@@ -391,7 +391,7 @@ pub fn ilbm_sprite(
     unsafe { exported::ilbm_sprite(file.as_ptr(), file.len(), picture, place, sprite, origin, shared) }
 }
 
-/// Tells the CAMG that counts for a picture: 0, or 1 to 12 with the place, or 20 to 24.
+/// Tells the CAMG that counts for a picture: 0, or a number of a picture.
 /// The origin is as above; the fields of an absent property are 0.
 pub fn ilbm_view_mode(
     file: &[u8],
@@ -404,8 +404,8 @@ pub fn ilbm_view_mode(
     unsafe { exported::ilbm_view_mode(file.as_ptr(), file.len(), picture, place, view_mode, origin, shared) }
 }
 
-/// Tells where the CMAP that counts for a picture lies in the file: 0, or 1 to
-/// 12 with the place, or 20 to 24. With the origin 0 it lies nowhere.
+/// Tells where the CMAP that counts for a picture lies in the file: 0, or a
+/// number of a picture. With the origin 0 it lies nowhere.
 pub fn ilbm_palette(
     file: &[u8],
     picture: usize,
@@ -418,7 +418,8 @@ pub fn ilbm_palette(
     unsafe { exported::ilbm_palette(file.as_ptr(), file.len(), picture, place, origin, shared, from, to) }
 }
 
-/// Writes the colour numbers of a scan line from a place of the BODY.
+/// Writes the colour numbers of a scan line from a place of the BODY: 0, or a
+/// number of a picture or of its rows.
 pub fn ilbm_line(
     file: &[u8],
     picture: usize,
@@ -441,7 +442,8 @@ pub fn ilbm_line(
     }
 }
 
-/// Writes the colour numbers of all scan lines.
+/// Writes the colour numbers of all scan lines: 0, or a number of a picture or
+/// of its rows.
 pub fn ilbm_frame(
     file: &[u8],
     picture: usize,

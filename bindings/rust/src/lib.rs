@@ -13,6 +13,27 @@
 //! println!("{refused}");
 //! # Ok::<(), florinhado::Refused>(())
 //! ```
+//!
+//! # Refusals of a picture
+//!
+//! Every call on a picture is refused by the file's structure, 1 to 12 with the
+//! place; then with 20 if there is no such picture, 21 if no BMHD counts, 22 for
+//! several BODYs, 23 for a property of a wrong size; then for the header: 41
+//! nPlanes over 8, 42 masking over 3, 43 compression over 1, 24 w, h or nPlanes 0
+//! with a BODY. They are tried in this order. The calls on its rows have more: 25
+//! for no BODY, 29 for a start place beyond its end, 28 for a row or frame of a
+//! wrong length, 27 and 26 with the place in the BODY. [`Refused::meaning`] tells
+//! each in words:
+//!
+//! ```
+//! # let fields = florinhado::Header { width: 3, height: 1, planes: 2, ..Default::default() };
+//! # let mut file = [0; 52];
+//! # florinhado::write(&fields, b"", &[1, 2, 3], &mut file)?;
+//! file[30] = 2; // the compression of a picture whose BMHD stands first
+//! let refused = florinhado::frame(&file, 0, &mut [0; 3]).unwrap_err();
+//! assert_eq!(refused.to_string(), "refusal 43 at 0: compression 2 or more: only 0 and 1 are known");
+//! # Ok::<(), florinhado::Refused>(())
+//! ```
 
 #![deny(missing_docs, unsafe_code)]
 

@@ -5,8 +5,8 @@ use crate::calls;
 use crate::properties::{Origin, Property};
 
 /// The palette of the picture with this number, three bytes a colour: the CMAP
-/// that counts, as a part of the file, or the default where none counts; 1 to
-/// 12, or 20 to 24.
+/// that counts, as a part of the file, or the default where none counts; or a
+/// refusal [of a picture](crate#refusals-of-a-picture).
 ///
 /// Each property is looked for by itself: here the nearest PROP has a CMAP, and
 /// one further out the BMHD.

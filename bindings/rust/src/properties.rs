@@ -88,7 +88,8 @@ pub struct Destination {
     pub plane_mask: u16,
 }
 
-/// The BMHD that counts for the picture with this number; 1 to 12, or 20 to 24.
+/// The BMHD that counts for the picture with this number, or a refusal
+/// [of a picture](crate#refusals-of-a-picture).
 ///
 /// ```
 /// let refused = florinhado::header(b"FORM\0\0\0\x04ILBM", 0).unwrap_err();
@@ -120,7 +121,8 @@ pub fn header(file: &[u8], picture: usize) -> Result<Property<Header>, Refused> 
     answer(told, place, Property { value, origin: Origin::of(origin, shared) })
 }
 
-/// The GRAB that counts for the picture with this number; 1 to 12, or 20 to 24.
+/// The GRAB that counts for the picture with this number, or a refusal
+/// [of a picture](crate#refusals-of-a-picture).
 pub fn grab(file: &[u8], picture: usize) -> Result<Property<HotSpot>, Refused> {
     let (mut place, mut origin, mut shared) = (0, 0, 0);
     let mut value = HotSpot::default();
@@ -129,7 +131,8 @@ pub fn grab(file: &[u8], picture: usize) -> Result<Property<HotSpot>, Refused> {
     answer(told, place, Property { value, origin: Origin::of(origin, shared) })
 }
 
-/// The DEST that counts for the picture with this number; 1 to 12, or 20 to 24.
+/// The DEST that counts for the picture with this number, or a refusal
+/// [of a picture](crate#refusals-of-a-picture).
 pub fn destination(file: &[u8], picture: usize) -> Result<Property<Destination>, Refused> {
     let (mut place, mut origin, mut shared) = (0, 0, 0);
     let mut value = Destination::default();
@@ -149,15 +152,15 @@ pub fn destination(file: &[u8], picture: usize) -> Result<Property<Destination>,
 }
 
 /// The sprite precedence of the SPRT that counts for the picture with this
-/// number; 1 to 12, or 20 to 24.
+/// number, or a refusal [of a picture](crate#refusals-of-a-picture).
 pub fn sprite(file: &[u8], picture: usize) -> Result<Property<u16>, Refused> {
     let (mut place, mut value, mut origin, mut shared) = (0, 0, 0, 0);
     let told = calls::ilbm_sprite(file, picture, &mut place, &mut value, &mut origin, &mut shared);
     answer(told, place, Property { value, origin: Origin::of(origin, shared) })
 }
 
-/// The view modes of the CAMG that counts for the picture with this number;
-/// 1 to 12, or 20 to 24.
+/// The view modes of the CAMG that counts for the picture with this number,
+/// or a refusal [of a picture](crate#refusals-of-a-picture).
 pub fn view_mode(file: &[u8], picture: usize) -> Result<Property<u32>, Refused> {
     let (mut place, mut value, mut origin, mut shared) = (0, 0, 0, 0);
     let told = calls::ilbm_view_mode(file, picture, &mut place, &mut value, &mut origin, &mut shared);

@@ -5,7 +5,8 @@ use crate::calls;
 
 /// Writes the colour numbers of one scan line to `row`, which has a byte for
 /// each pixel, and gives the place in the BODY at which the next line starts.
-/// The first line starts at 0. Refuses with 20 to 29, and then changes nothing.
+/// The first line starts at 0. A refusal is one [of a picture](crate#refusals-of-a-picture)
+/// or of its rows, and changes nothing.
 ///
 /// ```
 /// let refused = florinhado::scan_line(b"FORM\0\0\0\x04ILBM", 0, 0, &mut [0; 8]).unwrap_err();
@@ -19,7 +20,8 @@ pub fn scan_line(file: &[u8], picture: usize, start: usize, row: &mut [u8]) -> R
 
 /// Writes the colour numbers of all scan lines to `frame`, which has a byte for
 /// each pixel, line by line, and gives how many bytes of the BODY are left over.
-/// Refuses with 20 to 28, and then changes nothing.
+/// A refusal is one [of a picture](crate#refusals-of-a-picture) or of its rows,
+/// and changes nothing.
 ///
 /// ```
 /// let refused = florinhado::frame(b"FORM\0\0\0\x04ILBM", 1, &mut [0; 64]).unwrap_err();

@@ -1,4 +1,4 @@
--- The refusals 23 and 24, told from the parts of the file that hold the properties.
+-- 23 and the refusals of the header, told from the parts of the file that hold the properties.
 use Prim.Native.Nat.{ℕ, _+_, _-_, _%_, _≤_, _<_}
 use mathlib.Core.Path.{_≡_, refl, sym, _∙_}
 use mathlib.Core.Bool.{Bool, true, false, not}
@@ -157,19 +157,19 @@ module _ (s : List ℕ) (c : Contents) (b : Bool) (v : SizeIs (c .bmhd) 20 b) wh
                 ← v6 .at s (x .camg) (k .camg),
               )
 
--- 24
+-- 41, 42, 43, and 24 beside a BODY
 module _ (b : BitmapHeader) (body : Bool) where
-  pub many-planes : 8 < b .planes → 24 ≡ headerRefusal b body
+  pub many-planes : 8 < b .planes → 41 ≡ headerRefusal b body
   unfolding headerRefusal
   many-planes h = simp (lt-ltb _ _ h)
 
   module _ (h : b .planes ≤ 8) where
-    pub odd-masking : 3 < b .masking → 24 ≡ headerRefusal b body
+    pub odd-masking : 3 < b .masking → 42 ≡ headerRefusal b body
     unfolding headerRefusal
     odd-masking m = simp (le-ltb _ _ h, lt-ltb _ _ m)
 
     module _ (m : b .masking ≤ 3) where
-      pub odd-compression : 1 < b .compression → 24 ≡ headerRefusal b body
+      pub odd-compression : 1 < b .compression → 43 ≡ headerRefusal b body
       unfolding headerRefusal
       odd-compression k = simp (le-ltb _ _ h, le-ltb _ _ m, lt-ltb _ _ k)
 

@@ -91,11 +91,11 @@ module _ (s : List ℕ) (c : Contents) (a b : ℕ) (i : c .bmhd .part ≡ Betwee
       pub header-room : Full s c → 20 ≤ length (take (b - a) (drop a s))
       header-room (x, k) = rw (data-taken s (c .bmhd) (x .bmhd) a b (k .bmhd) i) (omega (arith, bmhd-20 x k))
 
-      pub refusal-24 :
+      pub refusal-of-header :
           (h : BitmapHeader) (r : ℕ) → h ≡ headerIn (take (b - a) (drop a s)) → r ≡ headerRefusal h (ltb 0 (c .bodies)) →
           JudgementIs s c (record { number = r; header = h })
       unfolding pictureRefusal
-      refusal-24 h r e f = record { number = go; header = λ x k z. read x k }
+      refusal-of-header h r e f = record { number = go; header = λ x k z. read x k }
         where
           read : (x : Content) → ContentsAre s c x → h ≡ headerIn (dataOf (x .bmhd))
           read x k = e ∙ ap headerIn (data-taken s (c .bmhd) (x .bmhd) a b (k .bmhd) i)

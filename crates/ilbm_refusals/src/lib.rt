@@ -1,4 +1,4 @@
-// The refusals of a picture by its content, 21 to 24.
+// The refusals of a picture by its content: 21 to 23, and those of its header.
 use ilbm_content::Contents;
 use ilbm_content::Held;
 use ilbm_content::Part;
@@ -67,18 +67,18 @@ fn wrong_size(s: &[u8], c: Contents) -> bool
     size_not(camg, 4)
 }
 
-// 24: a header that can't be shown.
+// 41, 42, 43, 24: a header that can't be shown.
 fn header_refusal(b: BitmapHeader, body: bool) -> usize
     ensures { λ r. ⌜ r ≡ headerRefusal b body ⌝ }
 {
     if 8 < b.planes {
-        return 24;
+        return 41;
     }
     if 3 < b.masking {
-        return 24;
+        return 42;
     }
     if 1 < b.compression {
-        return 24;
+        return 43;
     }
     if body {
         if b.w == 0 {
@@ -102,7 +102,7 @@ fn refused(number: usize) -> Judgement
     Judgement { number, header }
 }
 
-// 22 to 24, of a picture whose BMHD is a part of the file.
+// 22, 23 or the header's, of a picture whose BMHD is a part of the file.
 fn judge_header(s: &[u8], c: Contents, from: usize, to: usize) -> Judgement
     requires { ⌜ (Full (now s) c) × (c .bmhd .part ≡ Between from to) ⌝ }
     ensures { λ r. ⌜ JudgementIs (now (s .entry)) c r ⌝ }
@@ -118,7 +118,7 @@ fn judge_header(s: &[u8], c: Contents, from: usize, to: usize) -> Judgement
     Judgement { number, header }
 }
 
-// 21 to 24, or 0 with the header.
+// The refusal, or 0 with the header.
 pub fn judge(s: &[u8], c: Contents) -> Judgement
     requires { ⌜ Full (now s) c ⌝ }
     ensures { λ r. ⌜ JudgementIs (now (s .entry)) c r ⌝ }

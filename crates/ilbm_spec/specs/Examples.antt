@@ -1,13 +1,17 @@
--- 02's Ask 1, "the outer PROP ILBM has BMHD and CMAP, the inner PROP ILBM only a CMAP", and the rules beside it, computed: each property
+-- 02's Asks 1 and 2, computed.
+-- Ask 1, "the outer PROP ILBM has BMHD and CMAP, the inner PROP ILBM only a CMAP", and the rules beside it: each property
 -- comes from the nearest PROP that has it, of several there the last, and a FORM's own properties stay its own.
 use Prim.Native.Nat.{ℕ}
 use mathlib.Core.Path.{_≡_, refl}
+use mathlib.Core.Bool.{true, false}
 use mathlib.Core.List.{List, [], _∷_}
 use Rattle.iff_name.specs.Codes.{FORM, LIST, PROP, JJJJ}
 use Rattle.iff_chunk.specs.Chunks.{none, leaf, group, Chunk, aGroup, bytes}
 use Rattle.ilbm_spec.specs.Names.{ILBM, BMHD, CMAP, GRAB, SPRT}
 use Rattle.ilbm_spec.specs.Contents.{located, own, shared, absent, lastNamed, listScope, propertyOf, bodiesFrom, Content}
 use Rattle.ilbm_spec.specs.Contents.{contentsFrom, contentsOf}
+use Rattle.ilbm_spec.specs.declared.BitmapHeader.{BitmapHeader}
+use Rattle.ilbm_spec.specs.Pictures.{headerIn, headerRefusal}
 
 -- data by which a chunk is known
 abbrev mark : ℕ → List ℕ
@@ -55,3 +59,21 @@ inner =
 each-property-by-itself : contentsOf tree ≡ outer ∷ inner ∷ []
 unfolding contentsFrom listScope propertyOf lastNamed bodiesFrom bytes
 each-property-by-itself = refl
+
+-- Ask 2, "checked in the order 41, 42, 43, 24": each header has one fault less than the one before; the last has no BODY beside it.
+abbrev withFields : ℕ → ℕ → ℕ → BitmapHeader
+withFields planes masking compression =
+    headerIn
+    (0 ∷ 0 ∷ 0 ∷ 2 ∷ 0 ∷ 0 ∷ 0 ∷ 0 ∷ planes ∷ masking ∷ compression ∷ 0 ∷ 0 ∷ 0 ∷ 0 ∷ 0 ∷ 0 ∷ 0 ∷ 0 ∷ 0 ∷ [])
+
+abbrev refusals : List ℕ
+refusals =
+    headerRefusal (withFields 9 4 2) true ∷
+    headerRefusal (withFields 8 4 2) true ∷
+    headerRefusal (withFields 8 3 2) true ∷
+    headerRefusal (withFields 8 3 1) true ∷
+    headerRefusal (withFields 8 3 1) false ∷ []
+
+header-in-order : refusals ≡ 41 ∷ 42 ∷ 43 ∷ 24 ∷ 0 ∷ []
+unfolding headerIn headerRefusal
+header-in-order = refl

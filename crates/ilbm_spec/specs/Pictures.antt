@@ -1,4 +1,4 @@
--- 01 "Pictures": the refusals 20 to 24, the picture call and the palette.
+-- 01 "Pictures" and Ask 2: the refusals of a picture, the picture call and the palette.
 use Prim.Native.Nat.{ℕ, zero, suc, _+_, _-_, _*_, _%_}
 use mathlib.Core.Bool.{Bool, true, false, not}
 use mathlib.Core.List.{List, [], _∷_}
@@ -86,16 +86,17 @@ wrongSize c =
     (either (sizeNot 8 (c .dest))
     (either (sizeNot 2 (c .sprt)) (sizeNot 4 (c .camg))))))
 
--- 24: "nPlanes over 8, masking over 3, compression over 1, or a BODY with w, h or nPlanes 0". The number, or 0.
+-- "41 nPlanes over 8; 42 masking over 3; 43 compression over 1"; "24 now means w, h or nPlanes 0 with a BODY"; "checked in the order 41,
+-- 42, 43, 24". The number, or 0.
 unfoldable pub headerRefusal : BitmapHeader → Bool → ℕ
 headerRefusal b hasBody =
-    pick (ltb 8 (b .planes)) 24
-    (pick (ltb 3 (b .masking)) 24
-    (pick (ltb 1 (b .compression)) 24
+    pick (ltb 8 (b .planes)) 41
+    (pick (ltb 3 (b .masking)) 42
+    (pick (ltb 1 (b .compression)) 43
     (pick (both hasBody (either (eqb (b .w) 0) (either (eqb (b .h) 0) (eqb (b .planes) 0)))) 24
     0)))
 
--- 21 to 24 in their order: the number, or 0.
+-- 21, 22, 23 and then the header's, "where 24 stood": the number, or 0.
 unfoldable pub pictureRefusal : Content → ℕ
 pictureRefusal c =
     pick (not (counts (c .bmhd))) 21
@@ -120,7 +121,7 @@ abbrev pub viewIn : Found Chunk → ℕ → Viewed
 viewIn (found c) i = pickContent (contentsOf c) i
 viewIn (refused k p) i = refused k p
 
--- The picture of number i in a file: "After the structure refusals, in this order", 20 to 24.
+-- The picture of number i in a file: "After the structure refusals, in this order", 20, 21 and so on.
 abbrev pub viewOf : List ℕ → ℕ → Viewed
 viewOf s i = viewIn (readFile s) i
 

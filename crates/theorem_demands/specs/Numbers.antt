@@ -26,9 +26,10 @@ ofTable = structural ++ (13 ∷ [])
 abbrev pub ofCopy : List ℕ
 ofCopy = structural ++ (32 ∷ [])
 
--- "After the structure refusals, in this order": the table of "Pictures", as far as no rows are asked
+-- "After the structure refusals, in this order": the table of "Pictures", as far as no rows are asked, with Ask 2's "41, 42, 43, 24, where
+-- 24 stood"
 abbrev pub ofPicture : List ℕ
-ofPicture = structural ++ (20 ∷ 21 ∷ 22 ∷ 23 ∷ 24 ∷ [])
+ofPicture = structural ++ (20 ∷ 21 ∷ 22 ∷ 23 ∷ 41 ∷ 42 ∷ 43 ∷ 24 ∷ [])
 
 -- "at one code byte 27 comes before 26"
 abbrev pub ofRows : List ℕ

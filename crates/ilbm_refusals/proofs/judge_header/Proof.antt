@@ -1,5 +1,5 @@
--- 22 and 23 come first, so that BMHD has its 20 bytes when its fields are read for 24.
-use Rattle.ilbm_refusals.proofs.RefusalLaws.{refusal-22, refusal-23, refusal-24, part-order, part-inside, header-room}
+-- 22 and 23 come first, so that BMHD has its 20 bytes when its fields are judged.
+use Rattle.ilbm_refusals.proofs.RefusalLaws.{refusal-22, refusal-23, refusal-of-header, part-order, part-inside, header-room}
 use borrow.Author.Needs.{needs}
 use Rattle.ilbm_refusals.proofs.judge_header.Statement.{statement}
 use Rattle.ilbm_refusals.proofs.judge_header.Tie as tie
@@ -35,7 +35,7 @@ header-refusal-requires : tie.Need-header-refusal-requires
 header-refusal-requires c κs = search needs
 
 returns-3 : tie.Need-returns-3
-returns-3 c = search (refusal-24, needs)
+returns-3 c = search (refusal-of-header, needs)
 
 pub judge-header-spec : {M : Type 1} → statement M
 judge-header-spec =

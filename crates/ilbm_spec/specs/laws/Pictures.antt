@@ -1,5 +1,5 @@
 -- A picture that is not refused: its properties have their sizes, and it has at most 8 planes.
-use Prim.Native.Nat.{ℕ, _≤_}
+use Prim.Native.Nat.{ℕ, _<_, _≤_}
 use mathlib.Core.Path.{_≡_, refl}
 use mathlib.Core.Bool.{Bool, true, false, not}
 use lib.Dec.{eqb, ltb}
@@ -25,13 +25,13 @@ not-refused x e = go (counts (x .bmhd)) (ltb 1 (length (x .bodies))) (wrongSize 
 pub sizes-right : (x : Content) → pictureRefusal x ≡ 0 → wrongSize x ≡ false
 sizes-right x e = not-refused x e .0
 
-not-24 : (t : Bool) (n : ℕ) → pick t 24 n ≡ 0 → t ≡ false
-not-24 true n e = absurd (omega arith)
-not-24 false n e = refl
+passed : (t : Bool) (k n : ℕ) → 0 < k → pick t k n ≡ 0 → t ≡ false
+passed true k n i e = absurd (omega arith)
+passed false k n i e = refl
 
 few-planes : (h : BitmapHeader) (b : Bool) → headerRefusal h b ≡ 0 → h .planes ≤ 8
 unfolding headerRefusal
-few-planes h b e = ltb-false 8 (h .planes) (not-24 (ltb 8 (h .planes)) _ e)
+few-planes h b e = ltb-false 8 (h .planes) (passed (ltb 8 (h .planes)) 41 _ (omega arith) e)
 
 pub planes-8 : (x : Content) → pictureRefusal x ≡ 0 → headerIn (dataOf (x .bmhd)) .planes ≤ 8
 planes-8 x e = few-planes (headerIn (dataOf (x .bmhd))) (ltb 0 (length (x .bodies))) (not-refused x e .1)

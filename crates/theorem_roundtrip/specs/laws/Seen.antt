@@ -1,4 +1,4 @@
--- The one picture of the written file: its properties, and that none of 21 to 24 is given.
+-- The one picture of the written file: its properties, and that it is not refused.
 use Prim.Native.Nat.{ℕ, _+_, _%_}
 use mathlib.Core.Path.{_≡_, refl}
 use mathlib.Core.Bool.{true, false}
