@@ -1,5 +1,5 @@
--- A picture is refused by what the file is refused with and by those of pictures: the number is one of these where it is not 0. Rows are asked of
--- such a picture, and each row that is read is whole or refused by 27 or 26, so are rows and scan lines one after the other.
+-- A picture is refused by the file's numbers and by those of pictures: its number is one of these where it is not 0. Rows are asked of such
+-- a picture, and each row that is read is whole or refused by 27 or 26, so are rows and scan lines one after the other.
 use Prim.Native.Nat.{ℕ, zero, suc}
 use mathlib.Core.Path.{_≡_, refl}
 use mathlib.Core.Bool.{Bool, true, false}
