@@ -1,4 +1,4 @@
-//! Headers with every set of faults, alone and shared, with a BODY and without:
+//! Headers with every set of faults, own and shared, with a BODY and without:
 //! every call on the picture must tell the first fault in the order 41, 42, 43, 24.
 
 use crate::answers::Answers;
@@ -17,7 +17,7 @@ const PLANES: [u8; 6] = [0, 1, 8, 9, 24, 255];
 const MASKINGS: [u8; 7] = [0, 1, 2, 3, 4, 5, 255];
 const COMPRESSIONS: [u8; 5] = [0, 1, 2, 3, 255];
 
-/// How many headers had which faults, no fault among them.
+/// How many pictures had which faults in their headers, none among them.
 pub struct Faults {
     counts: BTreeMap<Vec<u32>, u64>,
 }
@@ -42,7 +42,7 @@ impl Faults {
     /// The counts of all sets of faults.
     pub fn text(&self) -> String {
         let words: Vec<String> = sets().map(|set| format!("{set:?} {}", self.of(&set))).collect();
-        format!("headers by their faults: {}\n", words.join(", "))
+        format!("pictures by the faults of their headers: {}\n", words.join(", "))
     }
 
     /// The sets that came up a hundred times or less.
