@@ -3,7 +3,7 @@
 Needs Debian's grafx2, xvfb, xdotool, pike8.0-core, pike8.0-image, libtwelvemonkeys-java,
 openjdk-17-jdk-headless and netpbm. Each program is handed a picture as PNG or PPM and saves
 it. Beside the file stands the PPM that ilbmtoppm reads from it, which must be the pixels
-that were handed over, or the number with which 01 has the library refuse it.
+that were handed over, or the number with which the papers have the library refuse it.
 """
 
 import pathlib

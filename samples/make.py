@@ -44,23 +44,21 @@ def second_prop():
     return group(b"LIST", b"JJJJ", prop, prop)
 
 
+def bmhd(width, planes, masking=0, compression=0):
+    """The header of a picture of two lines, on a page of 320 by 200."""
+    fields = [width, 2, 0, 0, planes << 8 | masking, compression << 8, 0, 0x0A0B, 320, 200]
+    return chunk(b"BMHD", b"".join(field.to_bytes(2, "big") for field in fields))
+
+
 def two_levels():
     """The outer PROP has BMHD and CMAP, the inner one only a CMAP; forty pictures of
     8 by 2 pixels and 4 colours have neither."""
-    fields = [8, 2, 0, 0, 0x200, 0, 0, 0x0A0B, 320, 200]
-    header = chunk(b"BMHD", b"".join(field.to_bytes(2, "big") for field in fields))
     greys = chunk(b"CMAP", bytes(85 * (n // 3) for n in range(12)))
     colours = chunk(b"CMAP", b"\0\0\0" b"\xff\0\0" b"\0\xff\0" b"\0\0\xff")
     rows = (bytes([n, 0, 6 * n, 0, 255 - n, 0, 3 * n, 0]) for n in range(40))
     pictures = (group(b"FORM", b"ILBM", chunk(b"BODY", row)) for row in rows)
     inner = group(b"LIST", b"ILBM", group(b"PROP", b"ILBM", colours), *pictures)
-    return group(b"LIST", b"ILBM", group(b"PROP", b"ILBM", header, greys), inner)
-
-
-def bmhd(width, planes, masking, compression):
-    """The header of a picture of two lines."""
-    sizes = width.to_bytes(2, "big") + b"\0\2" + bytes(4)
-    return chunk(b"BMHD", sizes + bytes([planes, masking, compression]) + bytes(9))
+    return group(b"LIST", b"ILBM", group(b"PROP", b"ILBM", bmhd(8, 2), greys), inner)
 
 
 def headers():

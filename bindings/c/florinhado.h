@@ -7,7 +7,8 @@
  *
  * All calls:
  *   - take any bytes, and end;
- *   - return 0, or the number of a refusal (the table below);
+ *   - return 0, or the number of a refusal (the tables below; in words
+ *     florinhado_meaning, at the end);
  *   - read a file or a row, given by a pointer and a length, and don't change it;
  *   - write every number that a pointer is passed for, after a refusal too.
  *     `place` is then the place that the refusal speaks of, and 0 otherwise;

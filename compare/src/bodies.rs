@@ -1,6 +1,6 @@
 //! Pictures with damaged BODYs, for the numbers and places of 26 and 27.
 
-use crate::large::{chunk, group};
+use crate::chunks::{chunk, group, Fields};
 use crate::{frame, line};
 use florinhado::Refused;
 use second::random::Random;
@@ -126,16 +126,17 @@ fn width(random: &mut Random) -> usize {
 /// A picture of few lines whose BODY is damaged.
 pub fn picture(random: &mut Random) -> Picture {
     let (width, height) = (width(random), random.between(1, 3));
-    let planes = random.between(1, 8);
-    let masking = random.pick(&[0, 0, 1, 1, 2, 3]);
-    let compression = random.pick(&[0, 1, 1, 1, 1]);
-    let mut header = random.bytes(20);
-    header[0..2].copy_from_slice(&(width as u16).to_be_bytes());
-    header[2..4].copy_from_slice(&(height as u16).to_be_bytes());
-    header[8..11].copy_from_slice(&[planes as u8, masking, compression]);
-    let rows = height * (planes + usize::from(masking == 1));
-    let body = body(random, compression, rows, width.div_ceil(16) * 2);
-    let members = [chunk(b"BMHD", &header), chunk(b"BODY", &body)].concat();
+    let fields = Fields {
+        width: width as u16,
+        height: height as u16,
+        planes: random.between(1, 8) as u8,
+        masking: random.pick(&[0, 0, 1, 1, 2, 3]),
+        compression: random.pick(&[0, 1, 1, 1, 1]),
+    };
+    let header = fields.bmhd_with(std::array::from_fn(|_| random.byte()));
+    let rows = height * usize::from(fields.planes + u8::from(fields.masking == 1));
+    let body = body(random, fields.compression, rows, width.div_ceil(16) * 2);
+    let members = [header, chunk(b"BODY", &body)].concat();
     Picture { file: group(b"FORM", b"ILBM", &members), width, height, body: body.len() }
 }
 

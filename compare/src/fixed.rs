@@ -1,7 +1,7 @@
 //! Files that are not generated: the scope's examples of the structure, and
 //! the samples with a byte changed.
 
-use crate::large::group;
+use crate::chunks::group;
 
 /// A file with the number and place that are known of it.
 pub struct Example {

@@ -1,5 +1,6 @@
 //! The largest and deepest files, with the answers that are known of them.
 
+use crate::chunks::{chunk, group, header, Fields};
 use second::{Accepted, LONGEST_FILE};
 
 /// As many empty chunks as fit into a FORM of the longest file.
@@ -10,21 +11,6 @@ pub const GROUPS: usize = (LONGEST_FILE - 12) / 12;
 
 /// Levels that groups may have.
 pub const LEVELS: usize = 16;
-
-fn header(name: &[u8; 4], size: usize) -> [u8; 8] {
-    let size = (size as u32).to_be_bytes();
-    std::array::from_fn(|n| if n < 4 { name[n] } else { size[n - 4] })
-}
-
-/// A local chunk with its pad byte.
-pub fn chunk(name: &[u8; 4], data: &[u8]) -> Vec<u8> {
-    [&header(name, data.len())[..], data, &[0][..data.len() % 2]].concat()
-}
-
-/// A group with these bytes as its members.
-pub fn group(name: &[u8; 4], kind: &[u8; 4], members: &[u8]) -> Vec<u8> {
-    [&header(name, 4 + members.len())[..], kind, members].concat()
-}
 
 /// A FORM of so many chunks without data.
 pub fn leaves(count: usize) -> Vec<u8> {
@@ -62,20 +48,14 @@ pub fn nested(levels: usize, members: &[u8]) -> Vec<u8> {
 /// a CMAP before the others.
 pub fn shared_from_afar(chunks: usize) -> Vec<u8> {
     let picture = group(b"FORM", b"ILBM", &chunk(b"BODY", &[0x80, 0]));
+    let one_pixel = Fields { width: 1, height: 1, planes: 1, masking: 0, compression: 0 };
     (1..LEVELS).rev().fold(picture, |inner, level| {
-        let header = if level == 1 { one_pixel() } else { Vec::new() };
+        let bmhd = if level == 1 { one_pixel.bmhd() } else { Vec::new() };
         let map = chunk(b"CMAP", &[level as u8; 3]);
-        let others = self::header(b"DATA", 0).repeat(chunks);
-        let prop = group(b"PROP", b"ILBM", &[header, map, others].concat());
+        let others = header(b"DATA", 0).repeat(chunks);
+        let prop = group(b"PROP", b"ILBM", &[bmhd, map, others].concat());
         group(b"LIST", b"JJJJ", &[prop, inner].concat())
     })
-}
-
-/// A BMHD of one pixel in one plane.
-fn one_pixel() -> Vec<u8> {
-    let mut data = [0; 20];
-    (data[1], data[3], data[8]) = (1, 1, 1);
-    chunk(b"BMHD", &data)
 }
 
 /// The file with as many bytes after its end as a file may have at most.

@@ -2,8 +2,8 @@
 //! worked examples, on changed samples, on generated files and on headers with
 //! every set of faults. Stops at the first difference.
 
-use compare::faults::Faults;
 use compare::fixed::{examples, variations};
+use compare::header_faults::HeaderFaults;
 use compare::{dump, worked, Origins, Subject, Tally};
 use second::generate;
 use second::random::Random;
@@ -24,7 +24,7 @@ fn main() -> ExitCode {
         .and_then(|()| compare_worked(&mut tally))
         .and_then(|()| compare_variations(&mut tally))
         .and_then(|()| compare_generated(&mut tally, &mut origins, seed, files))
-        .and_then(|()| Faults::compare(&mut Random::new(seed)));
+        .and_then(|()| HeaderFaults::compare(&mut Random::new(seed)));
     let faults = match compared {
         Ok(faults) => faults,
         Err(text) => {

@@ -3,27 +3,14 @@
 //! compared with the second reader too.
 
 use crate::borrowed::same;
-use crate::large::group;
+use crate::chunks::{chunk, group, Fields};
 use crate::Outcome;
 use florinhado::{Header, Kind, Origin, Refused};
 
-fn chunk(name: &[u8; 4], data: &[u8]) -> Vec<u8> {
-    let mut chunk = [&name[..], &(data.len() as u32).to_be_bytes(), data].concat();
-    chunk.resize(chunk.len() + data.len() % 2, 0);
-    chunk
-}
-
-fn header(width: u16, height: u16, planes: u8, compression: u8) -> Vec<u8> {
-    let mut data = [0; 20];
-    data[..2].copy_from_slice(&width.to_be_bytes());
-    data[2..4].copy_from_slice(&height.to_be_bytes());
-    (data[8], data[10]) = (planes, compression);
-    chunk(b"BMHD", &data)
-}
-
 /// One scan line of so many planes, with this BODY.
 fn line(width: u16, planes: u8, compression: u8, body: &[u8]) -> Vec<u8> {
-    group(b"FORM", b"ILBM", &[header(width, 1, planes, compression), chunk(b"BODY", body)].concat())
+    let fields = Fields { width, height: 1, planes, masking: 0, compression };
+    group(b"FORM", b"ILBM", &[fields.bmhd(), chunk(b"BODY", body)].concat())
 }
 
 /// A scan line's file, and its colour numbers or its refusal.
@@ -66,7 +53,8 @@ const BODY: Told = (2, Kind::Local, b"BODY", 24_000);
 /// BMHD and CMAP as 002 and 003 draw them: 320 by 200, 3 planes, 7 colours.
 fn properties() -> Vec<u8> {
     let colours: Vec<u8> = (0..7).flat_map(|n| [32 * n, 0, 0]).collect();
-    [header(320, 200, 3, 0), chunk(b"CMAP", &colours)].concat()
+    let fields = Fields { width: 320, height: 200, planes: 3, masking: 0, compression: 0 };
+    [fields.bmhd(), chunk(b"CMAP", &colours)].concat()
 }
 
 /// The box diagrams with their outlines: one picture, and two in a LIST.

@@ -2,7 +2,8 @@
 //! pictures read, and the largest written, on a thread with the stack that a
 //! call may take. `run_big.sh` runs it with a small stack for the rest.
 
-use compare::large::{accepted, filled_up, forms, group, leaves, nested, props, shared_from_afar};
+use compare::chunks::group;
+use compare::large::{accepted, filled_up, forms, leaves, nested, props, shared_from_afar};
 use compare::large::{GROUPS, LEAVES, LEVELS};
 use compare::write::written;
 use compare::{Subject, Tally};

@@ -1,4 +1,4 @@
--- 23 and the refusals of the header, told from the parts of the file that hold the properties.
+-- 23 and the refusals of the header: 23 told from the parts of the file that hold the properties.
 use Prim.Native.Nat.{ℕ, _+_, _-_, _%_, _≤_, _<_}
 use mathlib.Core.Path.{_≡_, refl, sym, _∙_}
 use mathlib.Core.Bool.{Bool, true, false, not}
@@ -8,9 +8,10 @@ use lib.Dec.{eqb}
 use lib.ListN.{length}
 use borrow.Author.Tests.{lt-ltb, le-ltb, eq-eqb, ne-eqb}
 use native.Mathlib.Omega.{arith}
+use Rattle.iff_name.specs.Name.{both}
 use Rattle.ilbm_spec.specs.declared.BitmapHeader.{BitmapHeader}
 use Rattle.ilbm_spec.specs.Contents.{Property, own, shared, absent, Content}
-use Rattle.ilbm_spec.specs.Pictures.{dataOf, counts, wrongSize, headerRefusal}
+use Rattle.ilbm_spec.specs.Pictures.{dataOf, counts, wrongSize, emptyPicture, headerRefusal}
 use Rattle.ilbm_content.specs.declared.Part.the-variants.{Nothing, Between}
 use Rattle.ilbm_content.specs.Held.{Shows}
 use Rattle.ilbm_content.specs.declared.Held.{Held}
@@ -157,7 +158,23 @@ module _ (s : List ℕ) (c : Contents) (b : Bool) (v : SizeIs (c .bmhd) 20 b) wh
                 ← v6 .at s (x .camg) (k .camg),
               )
 
--- 41, 42, 43, and 24 beside a BODY
+-- w, h or nPlanes 0, beside a BODY
+module _ (b : BitmapHeader) (body : Bool) where
+  pub no-body : body ≡ false → false ≡ both body (emptyPicture b)
+  no-body i = simp i
+
+  module _ (i : body ≡ true) where
+    pub no-width : b .w ≡ 0 → true ≡ both body (emptyPicture b)
+    no-width z = simp (i, eq-eqb _ _ z)
+
+    module _ (z : b .w ≡ 0 → ⊥) where
+      pub no-height : b .h ≡ 0 → true ≡ both body (emptyPicture b)
+      no-height y = simp (i, ne-eqb _ _ z, eq-eqb _ _ y)
+
+      pub no-planes : (b .h ≡ 0 → ⊥) → eqb (b .planes) 0 ≡ both body (emptyPicture b)
+      no-planes y = simp (i, ne-eqb _ _ z, ne-eqb _ _ y)
+
+-- 41, 42, 43, 24
 module _ (b : BitmapHeader) (body : Bool) where
   pub many-planes : 8 < b .planes → 41 ≡ headerRefusal b body
   unfolding headerRefusal
@@ -173,26 +190,11 @@ module _ (b : BitmapHeader) (body : Bool) where
       unfolding headerRefusal
       odd-compression k = simp (le-ltb _ _ h, le-ltb _ _ m, lt-ltb _ _ k)
 
-      module _ (k : b .compression ≤ 1) where
-        pub no-body : body ≡ false → 0 ≡ headerRefusal b body
+      module _ (k : b .compression ≤ 1) (e : Bool) (i : e ≡ both body (emptyPicture b)) where
+        pub empty : e ≡ true → 24 ≡ headerRefusal b body
         unfolding headerRefusal
-        no-body i = simp (le-ltb _ _ h, le-ltb _ _ m, le-ltb _ _ k, i)
+        empty j = rw (le-ltb _ _ h, le-ltb _ _ m, le-ltb _ _ k, ← i, j)
 
-        module _ (i : body ≡ true) where
-          pub no-width : b .w ≡ 0 → 24 ≡ headerRefusal b body
-          unfolding headerRefusal
-          no-width z = simp (le-ltb _ _ h, le-ltb _ _ m, le-ltb _ _ k, i, eq-eqb _ _ z)
-
-          module _ (z : b .w ≡ 0 → ⊥) where
-            pub no-height : b .h ≡ 0 → 24 ≡ headerRefusal b body
-            unfolding headerRefusal
-            no-height y = simp (le-ltb _ _ h, le-ltb _ _ m, le-ltb _ _ k, i, ne-eqb _ _ z, eq-eqb _ _ y)
-
-            module _ (y : b .h ≡ 0 → ⊥) where
-              pub no-planes : b .planes ≡ 0 → 24 ≡ headerRefusal b body
-              unfolding headerRefusal
-              no-planes x = simp (le-ltb _ _ h, le-ltb _ _ m, le-ltb _ _ k, i, ne-eqb _ _ z, ne-eqb _ _ y, eq-eqb _ _ x)
-
-              pub shown : (b .planes ≡ 0 → ⊥) → 0 ≡ headerRefusal b body
-              unfolding headerRefusal
-              shown x = simp (le-ltb _ _ h, le-ltb _ _ m, le-ltb _ _ k, i, ne-eqb _ _ z, ne-eqb _ _ y, ne-eqb _ _ x)
+        pub shown : e ≡ false → 0 ≡ headerRefusal b body
+        unfolding headerRefusal
+        shown j = rw (le-ltb _ _ h, le-ltb _ _ m, le-ltb _ _ k, ← i, j)

@@ -86,6 +86,10 @@ wrongSize c =
     (either (sizeNot 8 (c .dest))
     (either (sizeNot 2 (c .sprt)) (sizeNot 4 (c .camg))))))
 
+-- "w, h or nPlanes 0"
+abbrev pub emptyPicture : BitmapHeader → Bool
+emptyPicture b = either (eqb (b .w) 0) (either (eqb (b .h) 0) (eqb (b .planes) 0))
+
 -- "41 nPlanes over 8; 42 masking over 3; 43 compression over 1"; "24 now means w, h or nPlanes 0 with a BODY"; "checked in the order 41,
 -- 42, 43, 24". The number, or 0.
 unfoldable pub headerRefusal : BitmapHeader → Bool → ℕ
@@ -93,7 +97,7 @@ headerRefusal b hasBody =
     pick (ltb 8 (b .planes)) 41
     (pick (ltb 3 (b .masking)) 42
     (pick (ltb 1 (b .compression)) 43
-    (pick (both hasBody (either (eqb (b .w) 0) (either (eqb (b .h) 0) (eqb (b .planes) 0)))) 24
+    (pick (both hasBody (emptyPicture b)) 24
     0)))
 
 -- 21, 22, 23 and then the header's, "where 24 stood": the number, or 0.

@@ -1,8 +1,11 @@
--- The tests are those of the definition, in its order; w, h and planes of 0 count only beside a BODY.
+-- The four tests are those of the definition, in its order.
 use borrow.Author.Needs.{needs}
-use Rattle.ilbm_refusals.proofs.Laws.{many-planes, odd-masking, odd-compression, no-width, no-height, no-planes, shown, no-body}
+use Rattle.ilbm_refusals.proofs.Laws.{many-planes, odd-masking, odd-compression, empty, shown}
 use Rattle.ilbm_refusals.proofs.header_refusal.Statement.{statement}
 use Rattle.ilbm_refusals.proofs.header_refusal.Tie as tie
+
+empty-with-body-requires : tie.Need-empty-with-body-requires
+empty-with-body-requires c κs = search needs
 
 returns : tie.Need-returns
 returns c = search (many-planes, needs)
@@ -14,21 +17,10 @@ returns-3 : tie.Need-returns-3
 returns-3 c = search (odd-compression, needs)
 
 returns-4 : tie.Need-returns-4
-returns-4 c = search (no-width, needs)
+returns-4 c = search (empty, needs)
 
 returns-5 : tie.Need-returns-5
-returns-5 c = search (no-height, needs)
-
-returns-6 : tie.Need-returns-6
-returns-6 c = search (no-planes, needs)
-
-returns-7 : tie.Need-returns-7
-returns-7 c = search (shown, needs)
-
-returns-8 : tie.Need-returns-8
-returns-8 c = search (no-body, needs)
+returns-5 c = search (shown, needs)
 
 pub header-refusal-spec : {M : Type 1} → statement M
-header-refusal-spec =
-    tie.close
-    (tie.spec returns returns-2 returns-3 returns-4 returns-5 returns-6 returns-7 returns-8)
+header-refusal-spec = tie.close (tie.spec empty-with-body-requires returns returns-2 returns-3 returns-4 returns-5)

@@ -4,7 +4,7 @@
 use crate::answers::Answers;
 use crate::asked::Asked;
 use crate::borrowed::same;
-use crate::large::{chunk, group};
+use crate::chunks::{chunk, group, Fields};
 use crate::{dump, Outcome};
 use florinhado::Refused;
 use second::random::Random;
@@ -18,13 +18,13 @@ const MASKINGS: [u8; 7] = [0, 1, 2, 3, 4, 5, 255];
 const COMPRESSIONS: [u8; 5] = [0, 1, 2, 3, 255];
 
 /// How many pictures had which faults in their headers, none among them.
-pub struct Faults {
+pub struct HeaderFaults {
     counts: BTreeMap<Vec<u32>, u64>,
 }
 
-impl Faults {
+impl HeaderFaults {
     /// Makes every call on a picture with each header.
-    pub fn compare(random: &mut Random) -> Result<Faults, String> {
+    pub fn compare(random: &mut Random) -> Result<HeaderFaults, String> {
         let mut counts = BTreeMap::new();
         for file in headers().flat_map(|header| files(random, &header)) {
             let faults = second::header_faults(&file, 0).map_err(|told| format!("{told:?}"))?;
@@ -32,7 +32,7 @@ impl Faults {
             compared.map_err(|text| format!("faults {faults:?}: {text}\n{}", dump(&file)))?;
             *counts.entry(faults).or_default() += 1;
         }
-        Ok(Faults { counts })
+        Ok(HeaderFaults { counts })
     }
 
     fn of(&self, faults: &[u32]) -> u64 {
@@ -61,14 +61,8 @@ fn sets() -> impl Iterator<Item = Vec<u32>> {
 fn headers() -> impl Iterator<Item = Vec<u8>> {
     let fields = SIZES.into_iter().flat_map(|size| PLANES.map(|planes| (size, planes)));
     let fields = fields.flat_map(|(size, planes)| MASKINGS.map(|masking| (size, planes, masking)));
-    fields.flat_map(|((w, h), planes, masking)| {
-        COMPRESSIONS.map(|compression| {
-            let mut data = [0; 20];
-            data[0..2].copy_from_slice(&w.to_be_bytes());
-            data[2..4].copy_from_slice(&h.to_be_bytes());
-            data[8..11].copy_from_slice(&[planes, masking, compression]);
-            chunk(b"BMHD", &data)
-        })
+    fields.flat_map(|((width, height), planes, masking)| {
+        COMPRESSIONS.map(|compression| Fields { width, height, planes, masking, compression }.bmhd())
     })
 }
 
