@@ -1,18 +1,20 @@
-/* Frame decoding by libavcodec, beside which the benchmark times the library.
+/* Frame decoding by libavcodec, beside which the benchmark times the library:
+   a shared object, so that both run in one process. */
 
-   `libavcodec_frame WIDTH HEIGHT PLANES COMPRESSION BODY` reads the BODY from a
-   file. For each number on standard input it decodes the frame so many times and
-   prints the seconds and a sum of the colour numbers. */
-
-#include <inttypes.h>
 #include <libavcodec/avcodec.h>
 #include <stdio.h>
 #include <stdlib.h>
 #include <string.h>
-#include <time.h>
 
 /* What the decoder is told beside the BODY: 41 bytes, then the palette. */
-enum { EXTRA = 41, COLOURS = 256 };
+enum { EXTRA = 41, COLOURS = 256, MOST = 32 };
+
+struct decoder {
+    AVCodecContext *context;
+    AVFrame *frame;
+    AVPacket *packets[MOST];
+    size_t count;
+};
 
 static void fail(const char *what)
 {
@@ -20,23 +22,7 @@ static void fail(const char *what)
     exit(1);
 }
 
-static AVPacket *read_body(const char *name)
-{
-    FILE *file = fopen(name, "rb");
-    AVPacket *packet = av_packet_alloc();
-    long size = 0;
-    if (file && !fseek(file, 0, SEEK_END))
-        size = ftell(file);
-    if (!packet || size <= 0 || av_new_packet(packet, (int)size) < 0)
-        fail("no BODY");
-    rewind(file);
-    if (fread(packet->data, 1, (size_t)size, file) != (size_t)size)
-        fail("BODY not read");
-    fclose(file);
-    return packet;
-}
-
-static AVCodecContext *open_decoder(int width, int height, int planes, int compression)
+static AVCodecContext *open_context(int width, int height, int planes, int compression)
 {
     const AVCodec *codec = avcodec_find_decoder(AV_CODEC_ID_IFF_ILBM);
     AVCodecContext *context = avcodec_alloc_context3(codec);
@@ -62,47 +48,43 @@ static AVCodecContext *open_decoder(int width, int height, int planes, int compr
     return context;
 }
 
-static void decode(AVCodecContext *context, const AVPacket *packet, AVFrame *frame)
+/* A decoder of pictures of one shape. It is never closed. */
+void *outside_open(int width, int height, int planes, int compression)
 {
-    if (avcodec_send_packet(context, packet) < 0 || avcodec_receive_frame(context, frame) < 0)
-        fail("frame refused");
-}
-
-static uint64_t sum_of(const AVFrame *frame)
-{
-    uint64_t sum = 0;
-    for (int y = 0; y < frame->height; y++)
-        for (int x = 0; x < frame->width; x++)
-            sum = sum * 31 + frame->data[0][y * frame->linesize[0] + x];
-    return sum;
-}
-
-static double seconds(void)
-{
-    struct timespec now;
-    clock_gettime(CLOCK_MONOTONIC, &now);
-    return (double)now.tv_sec + (double)now.tv_nsec * 1e-9;
-}
-
-int main(int count, char **words)
-{
-    int times;
-    if (count != 6)
-        fail("use: libavcodec_frame WIDTH HEIGHT PLANES COMPRESSION BODY");
-    AVCodecContext *context = open_decoder(atoi(words[1]), atoi(words[2]), atoi(words[3]), atoi(words[4]));
-    AVPacket *packet = read_body(words[5]);
-    AVFrame *frame = av_frame_alloc();
-    if (!frame)
+    struct decoder *decoder = calloc(1, sizeof *decoder);
+    if (!decoder)
         fail("no memory");
-    while (scanf("%d", &times) == 1) {
-        double start = seconds();
-        for (int n = 0; n < times; n++)
-            decode(context, packet, frame);
-        printf("%.9f %" PRIu64 "\n", seconds() - start, sum_of(frame));
-        fflush(stdout);
-    }
-    av_frame_free(&frame);
-    av_packet_free(&packet);
-    avcodec_free_context(&context);
-    return 0;
+    decoder->context = open_context(width, height, planes, compression);
+    decoder->frame = av_frame_alloc();
+    if (!decoder->frame)
+        fail("no memory");
+    return decoder;
+}
+
+/* One more BODY. */
+void outside_add(struct decoder *decoder, const uint8_t *body, size_t length)
+{
+    AVPacket *packet = av_packet_alloc();
+    if (!packet || decoder->count == MOST || av_new_packet(packet, (int)length) < 0)
+        fail("no memory");
+    memcpy(packet->data, body, length);
+    decoder->packets[decoder->count++] = packet;
+}
+
+/* Decodes a BODY by its number. */
+void outside_decode(struct decoder *decoder, size_t number)
+{
+    if (avcodec_send_packet(decoder->context, decoder->packets[number]) < 0)
+        fail("BODY refused");
+    if (avcodec_receive_frame(decoder->context, decoder->frame) < 0)
+        fail("no frame");
+}
+
+/* The colour numbers of what was decoded last. */
+void outside_copy(const struct decoder *decoder, uint8_t *colours)
+{
+    const AVFrame *frame = decoder->frame;
+    for (int y = 0; y < frame->height; y++)
+        memcpy(colours + (size_t)y * (size_t)frame->width, frame->data[0] + y * frame->linesize[0],
+               (size_t)frame->width);
 }

@@ -5,9 +5,11 @@
 mod listing;
 mod rows;
 mod structure;
+mod table;
 mod write;
 
 pub use listing::fill;
-pub use rows::{frame, frame_by_bytes, pack};
+pub use rows::{frame, pack};
 pub use structure::{check, record};
+pub use table::frame_by_table;
 pub use write::write;

@@ -1,4 +1,4 @@
-//! Two frame decoders, and a packer.
+//! A frame decoder, and a packer.
 
 use second::{Header, Refused};
 
@@ -6,35 +6,6 @@ use second::{Header, Refused};
 /// and bit by bit. Returns the count of BODY bytes left over; after 26 or 27
 /// the frame is partly written.
 pub fn frame(header: &Header, body: &[u8], frame: &mut [u8]) -> Result<usize, Refused> {
-    lines(header, body, frame, |rows, length, line| {
-        for (x, pixel) in line.iter_mut().enumerate() {
-            for (plane, row) in rows.chunks_exact(length).enumerate() {
-                *pixel |= (row[x / 8] >> (7 - x % 8) & 1) << plane;
-            }
-        }
-    })
-}
-
-/// The same plane by plane, the eight bits of a byte at a time.
-pub fn frame_by_bytes(header: &Header, body: &[u8], frame: &mut [u8]) -> Result<usize, Refused> {
-    lines(header, body, frame, |rows, length, line| {
-        for (plane, row) in rows.chunks_exact(length).enumerate() {
-            for (pixels, byte) in line.chunks_mut(8).zip(row) {
-                for (n, pixel) in pixels.iter_mut().enumerate() {
-                    *pixel |= (byte >> (7 - n) & 1) << plane;
-                }
-            }
-        }
-    })
-}
-
-/// Reads the rows of each line, and gathers them into the cleared frame.
-fn lines(
-    header: &Header,
-    body: &[u8],
-    frame: &mut [u8],
-    gather: impl Fn(&[u8], usize, &mut [u8]),
-) -> Result<usize, Refused> {
     let width = usize::from(header.width);
     let planes = usize::from(header.planes);
     let length = width.div_ceil(16) * 2;
@@ -48,6 +19,15 @@ fn lines(
         gather(&rows[..planes * length], length, line);
     }
     Ok(body.len() - place)
+}
+
+/// Gathers the bits of the plane rows into a cleared line.
+fn gather(rows: &[u8], length: usize, line: &mut [u8]) {
+    for (x, pixel) in line.iter_mut().enumerate() {
+        for (plane, row) in rows.chunks_exact(length).enumerate() {
+            *pixel |= (row[x / 8] >> (7 - x % 8) & 1) << plane;
+        }
+    }
 }
 
 /// Reads one plane row and returns the next place.

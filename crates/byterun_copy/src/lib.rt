@@ -5,7 +5,7 @@ ghost use lib.ListN.{length, drop, replicate};
 ghost use lib.Seq.{paste};
 
 // Copies eight bytes of src, from `from` on, into dst, from `at` on.
-fn copy_eight(src: &[u8], from: usize, dst: &mut [u8], at: usize)
+pub fn copy_eight(src: &[u8], from: usize, dst: &mut [u8], at: usize)
     requires { ⌜ from + 8 ≤ length (now src) ⌝ }
     requires { ⌜ at + 8 ≤ length (now dst) ⌝ }
     ensures { λ _. ⌜ now (dst .exit) ≡ paste (now (dst .entry)) at (drop from (now (src .entry))) 8 ⌝ }

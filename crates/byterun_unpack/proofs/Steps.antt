@@ -1,93 +1,70 @@
--- One law for each way through a turn of the loop that writes a row: the row's first o bytes stand before what is still to be read, and a turn carries out
--- one code.
-use Prim.Native.Nat.{ℕ, _+_, _-_, _^_, _<_, _≤_}
-use mathlib.Core.Path.{_≡_, refl, sym, ap, _∙_}
+-- One law for each way through a turn of the loop that writes a row of n bytes: the row's first o bytes stand before what is still to be
+-- read, and a turn carries out one code. What stands behind the bytes that are written is not spoken of.
+use Prim.Native.Nat.{ℕ, _+_, _-_, _<_, _≤_}
+use mathlib.Core.Path.{_≡_, refl, sym, ap}
 use mathlib.Core.List.{List, [], _++_, append-assoc, append-nil}
-use lib.ListN.{length, take, drop, replicate, length-drop, length-replicate}
-use lib.Seq.{paste, length-paste, take-paste, take-all}
+use lib.ListN.{take, drop, replicate}
 use mir.Syntax.{w64}
 use mir.Val.{Fits}
+use native.Mathlib.Nat.{le-refl}
 use native.Mathlib.Omega.{arith}
-use Rattle.byterun_row.specs.ByteRun.{Row, filled, over, short, codeOf, prepend, unpackRow, IsFull}
+use Rattle.byterun_row.specs.ByteRun.{Row, filled, over, short, codeOf, prepend, onCode, unpackRow, IsFull}
 use Rattle.byterun_row.specs.laws.Steps.{row-none}
 use Rattle.byterun_row.specs.declared.Code.{Code}
 use Rattle.byterun_row.specs.declared.Code.the-variants.{Missing, Skip, Copy, Repeat, Long, Cut}
-use Rattle.byterun_row.proofs.Steps.{within, stepped, skip-fits, skip-less, copy-code-fits, copy-fits, copy-inside, copy-less, repeat-fits, repeat-less}
+use Rattle.byterun_row.proofs.Steps.{stepped, skip-fits, skip-less, copy-code-fits, copy-fits, copy-inside, copy-left, copy-less}
+use Rattle.byterun_row.proofs.Steps.{repeat-fits, repeat-left, repeat-less}
 
 prepend-twice : (xs ys : List ℕ) (r : Row) → prepend xs (prepend ys r) ≡ prepend (xs ++ ys) r
 prepend-twice xs ys (filled cs q) = ap (λ (l : List ℕ). filled l q) (sym (append-assoc xs ys cs))
 prepend-twice xs ys (over q) = refl
 prepend-twice xs ys (short q) = refl
 
-module _ (body row : List ℕ) (i o : ℕ) (r : Code) (is : r ≡ codeOf body i (length row - o)) (h : o < length row) where
-  module _ (v : Row) (u : prepend (take o row) (unpackRow body i (length row - o)) ≡ v) where
-    pub write-skip : r ≡ Skip → prepend (take o row) (unpackRow body (i + 1) (length row - o)) ≡ v
-    write-skip e = rw (stepped body i (length row - o) r is Skip e (omega arith)) at u
+module _ (body : List ℕ) (i n o : ℕ) (r : Code) (is : r ≡ codeOf body i (n - o)) (h : o < n) where
+  step : (c : Code) → r ≡ c → unpackRow body i (n - o) ≡ onCode body i (n - o) (λ j m. unpackRow body j m) c
+  step c e = stepped body i (n - o) r is c e (omega arith)
 
-    write-copy :
-        (k : ℕ) (row′ : List ℕ) → r ≡ Copy k → row′ ≡ paste row o (drop (i + 1) body) k →
-        prepend (take (o + k) row′) (unpackRow body (i + 1 + k) (length row′ - (o + k))) ≡ v
-    write-copy k row′ e p =
-        let w = within body i (length row - o) r is (Copy k) e in
-        let m : k ≤ length (drop (i + 1) body) = rw length-drop (omega arith) in
-        let a : length (paste row o (drop (i + 1) body) k) ≡ length row = length-paste row o (drop (i + 1) body) k (omega arith) m in
-        let t : take (o + k) (paste row o (drop (i + 1) body) k) ≡ take o row ++ take k (drop (i + 1) body) = take-paste row o (drop (i + 1) body) k (omega arith) m in
-        let d : length row - (o + k) ≡ length row - o - k = omega arith in
-        rw (p, t, a, d, ← prepend-twice (take o row) (take k (drop (i + 1) body))) (rw (stepped body i (length row - o) r is (Copy k) e (omega arith)) at u)
+  module _ (row : List ℕ) (v : Row) (u : prepend (take o row) (unpackRow body i (n - o)) ≡ v) where
+    pub write-skip : r ≡ Skip → prepend (take o row) (unpackRow body (i + 1) (n - o)) ≡ v
+    write-skip e = rw (step Skip e) at u
 
-    write-repeat :
-        (b k : ℕ) (row′ : List ℕ) → r ≡ Repeat b k → row′ ≡ paste row o (replicate k b) k →
-        prepend (take (o + k) row′) (unpackRow body (i + 2) (length row′ - (o + k))) ≡ v
-    write-repeat b k row′ e p =
-        let w = within body i (length row - o) r is (Repeat b k) e in
-        let m : k ≤ length (replicate k b) = rw length-replicate (omega arith) in
-        let a : length (paste row o (replicate k b) k) ≡ length row = length-paste row o (replicate k b) k (omega arith) m in
-        let t : take (o + k) (paste row o (replicate k b) k) ≡ take o row ++ replicate k b =
-        take-paste row o (replicate k b) k (omega arith) m ∙ ap (λ (l : List ℕ). take o row ++ l) (take-all k (replicate k b) (rw length-replicate (omega arith))) in
-        let d : length row - (o + k) ≡ length row - o - k = omega arith in
-        rw (p, t, a, d, ← prepend-twice (take o row) (replicate k b)) (rw (stepped body i (length row - o) r is (Repeat b k) e (omega arith)) at u)
+    -- a code that writes the bytes of a run
+    write-run :
+        (run row′ : List ℕ) (j k : ℕ) → unpackRow body i (n - o) ≡ prepend run (unpackRow body j (n - o - k)) →
+        take (o + k) row′ ≡ take o row ++ run → prepend (take (o + k) row′) (unpackRow body j (n - (o + k))) ≡ v
+    write-run run row′ j k s t =
+        let d : n - (o + k) ≡ n - o - k = omega arith in
+        rw (t, d, ← prepend-twice (take o row) run (unpackRow body j (n - o - k))) (rw s at u)
 
-    module _ (n : ℕ) (same : length row ≡ n) where
-      pub write-copied :
-          (k : ℕ) (row′ : List ℕ) → r ≡ Copy k → row′ ≡ paste row o (drop (i + 1) body) k →
-          (o + k ≤ length row′) × (length row′ ≡ n) × (prepend (take (o + k) row′) (unpackRow body (i + 1 + k) (length row′ - (o + k))) ≡ v)
-      write-copied k row′ e p =
-          let w = within body i (length row - o) r is (Copy k) e in
-          let a = length-paste row o (drop (i + 1) body) k (omega arith) (rw length-drop (omega arith)) in
-          (rw (p, a) (omega arith), rw (p, a) same, write-copy k row′ e p)
+    pub write-copy :
+        (k : ℕ) (row′ : List ℕ) → r ≡ Copy k → take (o + k) row′ ≡ take o row ++ take k (drop (i + 1) body) →
+        prepend (take (o + k) row′) (unpackRow body (i + 1 + k) (n - (o + k))) ≡ v
+    write-copy k row′ e t = write-run (take k (drop (i + 1) body)) row′ (i + 1 + k) k (step (Copy k) e) t
 
-      pub write-repeated :
-          (b k : ℕ) (row′ : List ℕ) → r ≡ Repeat b k → row′ ≡ paste row o (replicate k b) k →
-          (o + k ≤ length row′) × (length row′ ≡ n) × (prepend (take (o + k) row′) (unpackRow body (i + 2) (length row′ - (o + k))) ≡ v)
-      write-repeated b k row′ e p =
-          let w = within body i (length row - o) r is (Repeat b k) e in
-          let a = length-paste row o (replicate k b) k (omega arith) (rw length-replicate (omega arith)) in
-          (rw (p, a) (omega arith), rw (p, a) same, write-repeat b k row′ e p)
+    pub write-repeat :
+        (b k : ℕ) (row′ : List ℕ) → r ≡ Repeat b k → take (o + k) row′ ≡ take o row ++ replicate k b →
+        prepend (take (o + k) row′) (unpackRow body (i + 2) (n - (o + k))) ≡ v
+    write-repeat b k row′ e t = write-run (replicate k b) row′ (i + 2) k (step (Repeat b k) e) t
 
     pub no-missing : r ≡ Missing → IsFull v → ⊥
-    no-missing e f = rw (← u, stepped body i (length row - o) r is Missing e (omega arith)) at f
+    no-missing e f = rw (← u, step Missing e) at f
 
     pub no-long : r ≡ Long → IsFull v → ⊥
-    no-long e f = rw (← u, stepped body i (length row - o) r is Long e (omega arith)) at f
+    no-long e f = rw (← u, step Long e) at f
 
     pub no-cut : r ≡ Cut → IsFull v → ⊥
-    no-cut e f = rw (← u, stepped body i (length row - o) r is Cut e (omega arith)) at f
+    no-cut e f = rw (← u, step Cut e) at f
 
-  module _ (row₀ : List ℕ) (same : length row ≡ length row₀) (b : length row₀ < 2 ^ 64) where
-    pub copy-row-fits : (k : ℕ) → r ≡ Copy k → Fits w64 (o + k)
-    copy-row-fits k e = let w = within body i (length row - o) r is (Copy k) e in omega arith
+-- a run ends inside the row, and inside what holds the row
+module _ (n o k : ℕ) (h : o < n) (l : k ≤ n - o) where
+  pub run-room : (m : ℕ) → n ≤ m → o + k ≤ m
+  run-room m e = omega arith
 
-    pub repeat-row-fits : (x k : ℕ) → r ≡ Repeat x k → Fits w64 (o + k)
-    repeat-row-fits x k e = let w = within body i (length row - o) r is (Repeat x k) e in omega arith
+  pub run-fits : Fits w64 n → Fits w64 (o + k)
+  run-fits f = omega arith
 
-  pub copy-room : (k : ℕ) → r ≡ Copy k → o + k ≤ length row
-  copy-room k e = let w = within body i (length row - o) r is (Copy k) e in omega arith
-
-  pub repeat-room : (b k : ℕ) → r ≡ Repeat b k → o + k ≤ length row
-  repeat-room b k e = let w = within body i (length row - o) r is (Repeat b k) e in omega arith
-
-pub write-starts : (body row : List ℕ) (at n : ℕ) → length row ≡ n → prepend (take 0 row) (unpackRow body at (length row - 0)) ≡ unpackRow body at n
-write-starts body row at n e = let d : length row - 0 ≡ n = omega arith in rw d (go (unpackRow body at n))
+pub write-starts : (body row : List ℕ) (at n : ℕ) → prepend (take 0 row) (unpackRow body at (n - 0)) ≡ unpackRow body at n
+write-starts body row at n = let d : n - 0 ≡ n = omega arith in rw d (go (unpackRow body at n))
   where
     go : (r : Row) → prepend [] r ≡ r
     go (filled bs q) = refl
@@ -95,8 +72,14 @@ write-starts body row at n e = let d : length row - 0 ≡ n = omega arith in rw 
     go (short q) = refl
 
 pub write-ends :
-    (body row : List ℕ) (i o : ℕ) (v : Row) → length row ≤ o → prepend (take o row) (unpackRow body i (length row - o)) ≡ v → v ≡ filled row i
-write-ends body row i o v h u =
-    sym (rw (row-none body i (length row - o) (omega arith), take-all o row h) at u) ∙ ap (λ (l : List ℕ). filled l i) (append-nil row)
+    (body row : List ℕ) (i n o : ℕ) (v : Row) → o ≤ n → n ≤ o → prepend (take o row) (unpackRow body i (n - o)) ≡ v →
+    v ≡ filled (take n row) i
+write-ends body row i n o v a b u =
+    let s : o ≡ n = omega arith in
+    sym (rw (row-none body i (n - o) (omega arith), append-nil (take o row), s) at u)
 
-pub ruleset writing = (skip-fits, skip-less, copy-code-fits, copy-fits, copy-inside, copy-less, repeat-fits, repeat-less, write-starts, write-skip, no-missing, no-long, no-cut, copy-row-fits, repeat-row-fits, copy-room, repeat-room, write-ends)
+pub ruleset codes = (skip-fits, skip-less, copy-code-fits, copy-fits, copy-inside, copy-left, copy-less)
+
+pub ruleset runs = (repeat-fits, repeat-left, repeat-less, run-room, run-fits, le-refl)
+
+pub ruleset writing = (codes, runs, write-starts, write-skip, no-missing, no-long, no-cut, write-ends)

@@ -1,23 +1,26 @@
 // Writes a plane row of a BODY, plain or packed by ByteRun1.
 use byterun_copy::copy_run;
-use byterun_copy::fill_run;
+use byterun_overshoot::copy_over;
+use byterun_overshoot::fill_over;
 use byterun_row::Code;
 use byterun_row::RowAnswer;
 use byterun_row::code_at;
 use byterun_row::judge_row;
 ghost use mathlib.Core.Path.{_≡_};
-ghost use lib.ListN.{length};
+ghost use Prim.Native.Nat.{_≤_};
+ghost use lib.ListN.{length, take};
 ghost use Rattle.byterun_row.specs.ByteRun.{unpackRow, plainRow, rowOf, filled, answerOf, bytesAfter, IsFull};
 
-// Carries out the codes of a row that is known to be whole.
-fn write_packed(body: &[u8], at: usize, row: &mut [u8]) -> usize
-    requires { ⌜ IsFull (unpackRow (now body) at (length (now row))) ⌝ }
-    ensures { λ r. ⌜ unpackRow (now (body .entry)) at (length (now (row .entry))) ≡ filled (now (row .exit)) r ⌝ }
+// Carries out the codes of a row of n bytes that is known to be whole; what stands behind them is free.
+fn write_packed(body: &[u8], at: usize, n: usize, row: &mut [u8]) -> usize
+    requires { ⌜ n ≤ length (now row) ⌝ }
+    requires { ⌜ IsFull (unpackRow (now body) at n) ⌝ }
+    ensures { λ r. ⌜ unpackRow (now (body .entry)) at n ≡ filled (take n (now (row .exit))) r ⌝ }
 {
     let mut next = at;
     let mut done = 0;
-    while done < row.len() {
-        let code = code_at(body, next, row.len() - done);
+    while done < n {
+        let code = code_at(body, next, n - done);
         match code {
             Code::Missing => {
                 return next;
@@ -26,12 +29,12 @@ fn write_packed(body: &[u8], at: usize, row: &mut [u8]) -> usize
                 next = next + 1;
             }
             Code::Copy(count) => {
-                copy_run(body, next + 1, row, done, count);
+                copy_over(body, next + 1, row, done, count);
                 next = next + 1 + count;
                 done = done + count;
             }
             Code::Repeat(b, times) => {
-                fill_run(row, done, times, b);
+                fill_over(row, done, times, b);
                 next = next + 2;
                 done = done + times;
             }
@@ -46,12 +49,12 @@ fn write_packed(body: &[u8], at: usize, row: &mut [u8]) -> usize
     next
 }
 
-// Copies a plain row that is known to be whole.
-fn write_plain(body: &[u8], at: usize, row: &mut [u8]) -> usize
-    requires { ⌜ IsFull (plainRow (now body) at (length (now row))) ⌝ }
-    ensures { λ r. ⌜ plainRow (now (body .entry)) at (length (now (row .entry))) ≡ filled (now (row .exit)) r ⌝ }
+// Copies a plain row of n bytes that is known to be whole; what stands behind them is free.
+fn write_plain(body: &[u8], at: usize, n: usize, row: &mut [u8]) -> usize
+    requires { ⌜ n ≤ length (now row) ⌝ }
+    requires { ⌜ IsFull (plainRow (now body) at n) ⌝ }
+    ensures { λ r. ⌜ plainRow (now (body .entry)) at n ≡ filled (take n (now (row .exit))) r ⌝ }
 {
-    let n = row.len();
     if n == 0 {
         return at;
     }
@@ -59,15 +62,16 @@ fn write_plain(body: &[u8], at: usize, row: &mut [u8]) -> usize
     at + n
 }
 
-// Writes a row that is known to be whole, and returns the place after it.
-pub fn write_row(body: &[u8], at: usize, compression: u8, row: &mut [u8]) -> usize
-    requires { ⌜ IsFull (rowOf compression (now body) at (length (now row))) ⌝ }
-    ensures { λ r. ⌜ rowOf compression (now (body .entry)) at (length (now (row .entry))) ≡ filled (now (row .exit)) r ⌝ }
+// Writes a row of n bytes that is known to be whole, and returns the place after it; what stands behind the n bytes is free.
+pub fn write_row(body: &[u8], at: usize, compression: u8, n: usize, row: &mut [u8]) -> usize
+    requires { ⌜ n ≤ length (now row) ⌝ }
+    requires { ⌜ IsFull (rowOf compression (now body) at n) ⌝ }
+    ensures { λ r. ⌜ rowOf compression (now (body .entry)) at n ≡ filled (take n (now (row .exit))) r ⌝ }
 {
     if compression == 0 {
-        write_plain(body, at, row)
+        write_plain(body, at, n, row)
     } else {
-        write_packed(body, at, row)
+        write_packed(body, at, n, row)
     }
 }
 
@@ -79,7 +83,7 @@ pub fn read_row(body: &[u8], at: usize, compression: u8, row: &mut [u8]) -> RowA
     let answer = judge_row(body, at, row.len(), compression);
     match answer {
         RowAnswer::Full(next) => {
-            write_row(body, at, compression, row);
+            write_row(body, at, compression, row.len(), row);
             RowAnswer::Full(next)
         }
         RowAnswer::Oversteps(place) => RowAnswer::Oversteps(place),

@@ -85,18 +85,23 @@ module _ (buffer : List ℕ) (n planes x : ℕ) (h : planes ≤ 8) where
         let f : planes - 0 ≡ planes = omega arith in
         rw (e, f) at (c .is)
 
--- the byte of row k - 1
-module _ (k planes n i len : ℕ) (h : 0 < k) (g : k ≤ planes) (l : planes * n ≤ len) (m : i < n) where
-  pub byte-inside : (k - 1) * n + i < len
-  byte-inside = omega (arith, row-room (k - 1) planes n (omega arith))
+-- a byte of row k
+module _ (k planes n i len : ℕ) (h : k < planes) (l : planes * n ≤ len) where
+  pub byte-inside : i < n → k * n + i < len
+  byte-inside m = omega (arith, row-room k planes n h)
 
-  pub byte-fits : len < 2 ^ 64 → Fits w64 ((k - 1) * n + i)
-  byte-fits f = omega (arith, byte-inside)
+  module _ (f : len < 2 ^ 64) where
+    pub byte-fits : i < n → Fits w64 (k * n + i)
+    byte-fits m = omega (arith, row-room k planes n h)
 
-pub start-fits : (k planes n len : ℕ) → 0 < k → k ≤ planes → planes * n ≤ len → len < 2 ^ 64 → Fits w64 ((k - 1) * n)
-start-fits k planes n len h g l f = omega (arith, row-room (k - 1) planes n (omega arith))
+    pub start-fits : Fits w64 (k * n)
+    start-fits = omega (arith, row-room k planes n h)
 
-pub ruleset colouring = (coloured-start, coloured-more, coloured-end, byte-inside, byte-fits, start-fits)
+-- row k - 1, of which the loop has told that it is there
+pub row-before : (k planes : ℕ) → 0 < k → k ≤ planes → k - 1 < planes
+row-before k planes h l = omega arith
+
+pub ruleset colouring = (coloured-start, coloured-more, coloured-end, row-before, byte-inside, byte-fits, start-fits)
 
 -- one more pixel
 colours-last : (x n : ℕ) (rows : List (List ℕ)) → coloursFrom x (suc n) rows ≡ coloursFrom x n rows ++ (colourBy 1 (x + n) rows ∷ [])

@@ -1,133 +1,86 @@
--- Eight pixels as one number: a plane doubles each of them and adds its bits, and the bytes of the number are their colours.
+-- Eight pixels as one word: a plane doubles each of them and adds its bits, and the bytes of the word are their colours.
 use Prim.Native.Nat.{ℕ, zero, suc, _+_, _-_, _*_, _/_, _%_, _^_, _<_, _≤_}
 use mathlib.Core.Path.{_≡_, refl, sym, ap, _∙_}
-use mathlib.Core.Bool.{Bool, true, false}
 use mathlib.Core.List.{List, [], _∷_, _++_}
-use lib.Bits.{bitAnd}
-use lib.Dec.{ltb, eqb}
 use lib.ListN.{length, getD, take, drop}
 use lib.Seq.{paste, take-paste}
 use mir.Syntax.{w64}
 use mir.Val.{Fits}
-use borrow.Author.Tests.{ltb-true, ltb-false, eqb-true}
 use native.Mathlib.Omega.{arith}
-use Rattle.iff_name.specs.Name.{pick}
 use Rattle.ilbm_spec.specs.Rows.{colourBy, coloursFrom}
-use Rattle.ilbm_gather.specs.Buffer.{rowsIn}
-use Rattle.ilbm_gather.specs.Spread.{eight, spreadOf, bytesOf}
-use Rattle.ilbm_gather.proofs.Colours.{colour-front, row-bit, colour-byte, Gathered}
-
--- ---- a byte spread
-
--- a test passes below a number
-all : (ℕ → Bool) → ℕ → Bool
-all f zero = true
-all f (suc n) = pick (f n) (all f n) false
-
-all-at : (f : ℕ → Bool) (n : ℕ) → all f n ≡ true → (k : ℕ) → k < n → f k ≡ true
-unfolding all
-all-at f zero e k h = absurd (omega arith)
-all-at f (suc n) e k h = go (λ w o. all-at f n w k o) (f n) refl (ltb k n) refl e
-  where
-    go : (all f n ≡ true → k < n → f k ≡ true) → (t : Bool) → f n ≡ t → (u : Bool) → ltb k n ≡ u → pick t (all f n) false ≡ true →
-        f k ≡ true
-    go ih false p u q w = let z : _≡_ {A = ℕ} 0 1 = cc in absurd (omega arith)
-    go ih true p true q w = ih w (ltb-true k n q)
-    go ih true p false q w = let o = ltb-false k n q in let z : k ≡ n = omega arith in rw z p
-
--- what `spread` computes
-abbrev shifted : ℕ → ℕ
-shifted b = bitAnd (b % 128 * 567382630219905) 282578800148737 + b / 128 * 72057594037927936
-
-right : ℕ → Bool
-right b = eqb (shifted b) (spreadOf b)
-
-all-right : all right 256 ≡ true
-unfolding all right
-all-right = refl
-
-module _ (b x : ℕ) (e : (b ≡ x) × (b < 256)) where
-  pub spread-is : shifted b ≡ spreadOf x
-  unfolding right
-  spread-is = rw (← (e .0)) (eqb-true (shifted b) (spreadOf b) (all-at right 256 all-right b (e .1)))
-
-  pub spread-fits : Fits w64 (shifted b)
-  spread-fits = rw spread-is (omega arith)
+use Rattle.ilbm_spread.specs.Spread.{eight, spreadOf, bytesOf, IsSpread}
+use Rattle.ilbm_gather.specs.Buffer.{rowsIn, eightFrom}
+use Rattle.ilbm_gather.proofs.Colours.{colour-front, row-bit, colour-byte, byte-inside, byte-fits, start-fits, Gathered}
 
 -- ---- the planes of eight pixels
-
--- the colour numbers of the planes from k on
-pub record Eighted (buffer : List ℕ) (n planes byte k v : ℕ) : Type 0 where
-  pub is : v ≡ eight (λ i. colourBy 1 (8 * byte + i) (rowsIn n (planes - k) k buffer))
 
 eight-small : (f : ℕ → ℕ) → ((i : ℕ) → f i ≤ 255) → eight f < 2 ^ 64
 eight-small f h = omega (arith, h 0, h 1, h 2, h 3, h 4, h 5, h 6, h 7)
 
 module _ (buffer : List ℕ) (n planes byte : ℕ) (h : planes ≤ 8) where
-  eighted-small : (k : ℕ) → eight (λ i. colourBy 1 (8 * byte + i) (rowsIn n (planes - k) k buffer)) < 2 ^ 64
-  eighted-small k = eight-small (λ i. colourBy 1 (8 * byte + i) (rowsIn n (planes - k) k buffer)) (λ i. colour-byte buffer n planes (8 * byte + i) h k)
+  -- no plane after the last
+  eight-none : (k : ℕ) → planes ≤ k → eightFrom n planes byte k buffer ≡ 0
+  unfolding eightFrom colourBy rowsIn
+  eight-none k l = let e : planes - k ≡ 0 = omega arith in rw e
 
-  pub eighted-start : Eighted buffer n planes byte planes 0
-  unfolding colourBy rowsIn
-  eighted-start = let e : planes - planes ≡ 0 = omega arith in record { is = rw e }
+  eight-fits : (k : ℕ) → eightFrom n planes byte k buffer < 2 ^ 64
+  unfolding eightFrom
+  eight-fits k = eight-small (λ i. colourBy 1 (8 * byte + i) (rowsIn n (planes - k) k buffer)) (λ i. colour-byte buffer n planes (8 * byte + i) h k)
 
-  plane-more :
-      (k i : ℕ) → i < 8 → 0 < k → k ≤ planes → byte < n →
-      colourBy 1 (8 * byte + i) (rowsIn n (planes - (k - 1)) (k - 1) buffer)
-      ≡ colourBy 1 (8 * byte + i) (rowsIn n (planes - k) k buffer) * 2 + getD buffer ((k - 1) * n + byte) 0 / 2 ^ (7 - i) % 2
-  unfolding rowsIn
-  plane-more k i o z l m =
-      let d : (8 * byte + i) / 8 ≡ byte = omega arith in
-      let g : (8 * byte + i) % 8 ≡ i = omega arith in
-      let e : planes - (k - 1) ≡ suc (planes - k) = omega arith in
-      let f : suc (k - 1) ≡ k = omega arith in
-      let w : colourBy 1 (8 * byte + i) (take n (drop ((k - 1) * n) buffer) ∷ rowsIn n (planes - k) k buffer)
-      ≡ colourBy 1 (8 * byte + i) (rowsIn n (planes - k) k buffer) * 2 + getD buffer ((k - 1) * n + (8 * byte + i) / 8) 0 / 2 ^ (7 - (8 * byte + i) % 8) % 2 =
-      colour-front (8 * byte + i) (take n (drop ((k - 1) * n) buffer)) (rowsIn n (planes - k) k buffer)
-      ∙ ap (λ (t : ℕ). colourBy 1 (8 * byte + i) (rowsIn n (planes - k) k buffer) * 2 + t) (row-bit n (k - 1) (8 * byte + i) buffer (rw d m)) in
-      rw (e, f) (rw (d, g) at w)
+  module _ (k : ℕ) (l : k < planes) (m : byte < n) where
+    one :
+        (i : ℕ) → i < 8 →
+        colourBy 1 (8 * byte + i) (rowsIn n (planes - k) k buffer)
+        ≡ colourBy 1 (8 * byte + i) (rowsIn n (planes - (k + 1)) (k + 1) buffer) * 2 + getD buffer (k * n + byte) 0 / 2 ^ (7 - i) % 2
+    unfolding rowsIn
+    one i o =
+        let d : (8 * byte + i) / 8 ≡ byte = omega arith in
+        let g : (8 * byte + i) % 8 ≡ i = omega arith in
+        let e : planes - k ≡ suc (planes - suc k) = omega arith in
+        let f : k + 1 ≡ suc k = omega arith in
+        let rest : List (List ℕ) = rowsIn n (planes - suc k) (suc k) buffer in
+        let w : colourBy 1 (8 * byte + i) (take n (drop (k * n) buffer) ∷ rest)
+        ≡ colourBy 1 (8 * byte + i) rest * 2 + getD buffer (k * n + (8 * byte + i) / 8) 0 / 2 ^ (7 - (8 * byte + i) % 8) % 2 =
+        colour-front (8 * byte + i) (take n (drop (k * n) buffer)) rest
+        ∙ ap (λ (t : ℕ). colourBy 1 (8 * byte + i) rest * 2 + t) (row-bit n k (8 * byte + i) buffer (rw d m)) in
+        rw (f, e) (rw (d, g) at w)
 
-  module _ (k v : ℕ) (c : Eighted buffer n planes byte k v) where
-    pub eighted-end : k ≤ 0 → v ≡ eight (λ i. colourBy 1 (8 * byte + i) (rowsIn n planes 0 buffer))
-    eighted-end h =
-        let e : k ≡ 0 = omega arith in
-        let f : planes - 0 ≡ planes = omega arith in
-        rw (e, f) at (c .is)
+    -- one more plane, in front of the others
+    eight-more : eightFrom n planes byte k buffer ≡ eightFrom n planes byte (k + 1) buffer * 2 + spreadOf (getD buffer (k * n + byte) 0)
+    unfolding eightFrom
+    eight-more =
+        omega (
+          arith,
+          one 0 (omega arith),
+          one 1 (omega arith),
+          one 2 (omega arith),
+          one 3 (omega arith),
+          one 4 (omega arith),
+          one 5 (omega arith),
+          one 6 (omega arith),
+          one 7 (omega arith),
+        )
 
-    module _ (b r : ℕ) (z : 0 < k) (l : k ≤ planes) (m : byte < n) (is : b ≡ getD buffer ((k - 1) * n + byte) 0) (s : r ≡ spreadOf b) where
-      one :
-          (i : ℕ) → i < 8 →
-          colourBy 1 (8 * byte + i) (rowsIn n (planes - (k - 1)) (k - 1) buffer) ≡ colourBy 1 (8 * byte + i) (rowsIn n (planes - k) k buffer) * 2 + b / 2 ^ (7 - i) % 2
-      one i o = plane-more k i o z l m ∙
-          ap (λ (t : ℕ). colourBy 1 (8 * byte + i) (rowsIn n (planes - k) k buffer) * 2 + t / 2 ^ (7 - i) % 2) (sym is)
+    -- the same by the word v of the planes after k and an entry of the table
+    module _ (table : List ℕ) (t : IsSpread table) (v b x : ℕ) (is : v ≡ eightFrom n planes byte (k + 1) buffer) where
+      module _ (e : b ≡ x) (small : b < 256) (at : x ≡ getD buffer (k * n + byte) 0) where
+        pub plane-more : v * 2 + getD table b 0 ≡ eightFrom n planes byte k buffer
+        unfolding IsSpread
+        plane-more = rw (is, t b small, e, at) (sym eight-more)
 
-      sum : v * 2 + r ≡ eight (λ i. colourBy 1 (8 * byte + i) (rowsIn n (planes - (k - 1)) (k - 1) buffer))
-      sum =
-          let q = c .is in
-          omega (
-            arith,
-            one 0 (omega arith),
-            one 1 (omega arith),
-            one 2 (omega arith),
-            one 3 (omega arith),
-            one 4 (omega arith),
-            one 5 (omega arith),
-            one 6 (omega arith),
-            one 7 (omega arith),
-          )
+        pub plane-fits : Fits w64 (v * 2 + getD table b 0)
+        plane-fits = let e = plane-more in let f = eight-fits k in omega arith
 
-      pub eighted-more : Eighted buffer n planes byte (k - 1) (v * 2 + r)
-      eighted-more = record { is = sum }
+    pub plane-double : (v : ℕ) → v ≡ eightFrom n planes byte (k + 1) buffer → Fits w64 (v * 2)
+    plane-double v is = let e = eight-more in let f = eight-fits k in omega arith
 
-      pub eighted-fits : Fits w64 (v * 2 + r)
-      eighted-fits = let u = eighted-small (k - 1) in let w = sum in omega arith
+  pub no-plane : (k v : ℕ) → planes ≤ k → v ≡ eightFrom n planes byte (k + 1) buffer → v ≡ eightFrom n planes byte k buffer
+  no-plane k v l is = is ∙ eight-none (k + 1) (omega arith) ∙ sym (eight-none k l)
 
-    pub eighted-double : 0 < k → k ≤ planes → byte < n → Fits w64 (v * 2)
-    eighted-double z l m =
-        let b : ℕ = getD buffer ((k - 1) * n + byte) 0 in
-        let u = eighted-small (k - 1) in
-        let w = sum b (spreadOf b) z l m refl refl in
-        omega arith
+  pub no-planes : 0 ≡ eightFrom n planes byte 8 buffer
+  no-planes = sym (eight-none 8 h)
+
+pub ruleset planing = (plane-more, plane-fits, plane-double, no-plane, no-planes, byte-inside, byte-fits, start-fits)
 
 -- ---- the row
 
@@ -135,14 +88,14 @@ module _ (buffer : List ℕ) (n planes byte : ℕ) (h : planes ≤ 8) where
 bytes-eight : (f : ℕ → ℕ) → ((i : ℕ) → f i ≤ 255) → bytesOf (eight f) ≡ f 0 ∷ f 1 ∷ f 2 ∷ f 3 ∷ f 4 ∷ f 5 ∷ f 6 ∷ f 7 ∷ []
 bytes-eight f h =
     let h0 = h 0 in let h1 = h 1 in let h2 = h 2 in let h3 = h 3 in let h4 = h 4 in let h5 = h 5 in let h6 = h 6 in let h7 = h 7 in
-    let e0 : eight f / 72057594037927936 ≡ f 0 = omega arith in
-    let e1 : eight f / 281474976710656 % 256 ≡ f 1 = omega arith in
-    let e2 : eight f / 1099511627776 % 256 ≡ f 2 = omega arith in
-    let e3 : eight f / 4294967296 % 256 ≡ f 3 = omega arith in
-    let e4 : eight f / 16777216 % 256 ≡ f 4 = omega arith in
-    let e5 : eight f / 65536 % 256 ≡ f 5 = omega arith in
-    let e6 : eight f / 256 % 256 ≡ f 6 = omega arith in
-    let e7 : eight f % 256 ≡ f 7 = omega arith in
+    let e7 : eight f / 72057594037927936 ≡ f 7 = omega arith in
+    let e6 : eight f / 281474976710656 % 256 ≡ f 6 = omega arith in
+    let e5 : eight f / 1099511627776 % 256 ≡ f 5 = omega arith in
+    let e4 : eight f / 4294967296 % 256 ≡ f 4 = omega arith in
+    let e3 : eight f / 16777216 % 256 ≡ f 3 = omega arith in
+    let e2 : eight f / 65536 % 256 ≡ f 2 = omega arith in
+    let e1 : eight f / 256 % 256 ≡ f 1 = omega arith in
+    let e0 : eight f % 256 ≡ f 0 = omega arith in
     rw (e0, e1, e2, e3, e4, e5, e6, e7)
 
 colours-append : (x m n : ℕ) (rows : List (List ℕ)) → coloursFrom x (m + n) rows ≡ coloursFrom x m rows ++ coloursFrom (x + m) n rows
@@ -176,8 +129,9 @@ colours-eight x rows =
 -- one more byte of pixels
 module _ (buffer : List ℕ) (n planes : ℕ) (h : planes ≤ 8) (j v : ℕ) (row row′ : List ℕ) (g : Gathered (rowsIn n planes 0 buffer) (8 * j) row) where
   pub gathered-eight :
-      v ≡ eight (λ i. colourBy 1 (8 * j + i) (rowsIn n planes 0 buffer)) → 8 * j + 8 ≤ length row → row′ ≡ paste row (8 * j) (bytesOf v) 8 →
+      v ≡ eightFrom n planes j 0 buffer → 8 * j + 8 ≤ length row → row′ ≡ paste row (8 * j) (bytesOf v) 8 →
       Gathered (rowsIn n planes 0 buffer) (8 * (j + 1)) row′
+  unfolding eightFrom
   gathered-eight e l p =
       let f : planes - 0 ≡ planes = omega arith in
       let y : 8 * (j + 1) ≡ 8 * j + 8 = omega arith in
@@ -185,7 +139,7 @@ module _ (buffer : List ℕ) (n planes : ℕ) (h : planes ≤ 8) (j v : ℕ) (ro
       let b = bytes-eight (λ i. colourBy 1 (8 * j + i) (rowsIn n planes 0 buffer)) (λ i. rw f at (colour-byte buffer n planes (8 * j + i) h 0)) in
       let t : take (8 * j + 8) row′ ≡ take (8 * j) row ++ bytesOf v =
       rw p (take-paste row (8 * j) (bytesOf v) 8 (omega arith) (omega arith)) in
-      let q : bytesOf v ≡ coloursFrom (8 * j) 8 (rowsIn n planes 0 buffer) = rw (e, colours-eight (8 * j) (rowsIn n planes 0 buffer)) b in
+      let q : bytesOf v ≡ coloursFrom (8 * j) 8 (rowsIn n planes 0 buffer) = rw (e, f, colours-eight (8 * j) (rowsIn n planes 0 buffer)) b in
       record { is = rw (y, t, g .is, q) (sym (rw z at (colours-append 0 (8 * j) 8 (rowsIn n planes 0 buffer)))) }
 
 -- the place of a byte of pixels

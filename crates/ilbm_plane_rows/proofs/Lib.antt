@@ -1,3 +1,4 @@
 pub mod Judging
 pub mod Lines
+pub mod Plain
 pub mod Writing

@@ -3,7 +3,7 @@ use Prim.Native.Nat.{ℕ, zero, suc, _+_, _-_, _*_, _^_, _<_, _≤_}
 use mathlib.Core.Path.{_≡_, refl, sym, ap, _∙_}
 use mathlib.Core.List.{List, [], _∷_, _++_, append-assoc, append-nil}
 use lib.ListN.{length, take, drop, length-drop, take-append-drop}
-use lib.Seq.{take-append-le, drop-append-le, take-at, drop-at, length-take-le}
+use lib.Seq.{take-append-le, drop-append-le, drop-at, length-take-le}
 use mir.Syntax.{w64}
 use mir.Val.{Fits}
 use native.Mathlib.Numerals.{add-one}
@@ -39,14 +39,16 @@ rows-last n zero k xs = let e : k + 0 ≡ k = omega arith in rw e
 rows-last n (suc m) k xs = let e : k + suc m ≡ suc k + m = omega arith in
     rw e (ap (λ (l : List (List ℕ)). take n (drop (k * n) xs) ∷ l) (rows-last n m (suc k) xs))
 
--- the part of a buffer that is lent for a row
-pub part-long : (a n : ℕ) (xs : List ℕ) → a + n ≤ length xs → length (take (a + n - a) (drop a xs)) ≡ n
-part-long a n xs h = let e : a + n - a ≡ n = omega arith in rw e (length-take-le n (drop a xs) (rw length-drop (omega arith)))
+-- the part of a buffer that is lent for a row has room for it
+pub part-long : (a n : ℕ) (xs : List ℕ) → a + n ≤ length xs → n ≤ length (take (length xs - a) (drop a xs))
+part-long a n xs h =
+    let e : length (take (length xs - a) (drop a xs)) ≡ length xs - a = length-take-le (length xs - a) (drop a xs) (rw length-drop (omega arith)) in
+    omega arith
 
--- a row written over row k of a buffer
+-- a row written over row k of a buffer, and something over what stands after it
 pub rows-more :
-    (n k : ℕ) (old new tail : List ℕ) → k * n + n ≤ length old → length new ≡ n →
-    rowsIn n (k + 1) 0 (take (k * n) old ++ (new ++ tail)) ≡ rowsIn n k 0 old ++ (new ∷ [])
+    (n k : ℕ) (old new tail : List ℕ) → k * n + n ≤ length old → n ≤ length new →
+    rowsIn n (k + 1) 0 (take (k * n) old ++ (new ++ tail)) ≡ rowsIn n k 0 old ++ (take n new ∷ [])
 rows-more n k old new tail h l =
     let a : length (take (k * n) old) ≡ k * n = length-take-le (k * n) old (omega arith) in
     let z : 0 + k ≡ k = omega arith in
@@ -55,8 +57,8 @@ rows-more n k old new tail h l =
     rows-left n k 0 (take (k * n) old) (new ++ tail) b in
     let g : rowsIn n k 0 old ≡ rowsIn n k 0 (take (k * n) old) =
     sym (ap (λ (xs : List ℕ). rowsIn n k 0 xs) (take-append-drop (k * n) old)) ∙ rows-left n k 0 (take (k * n) old) (drop (k * n) old) b in
-    let i : take n (drop (k * n) (take (k * n) old ++ (new ++ tail))) ≡ new =
-    ap (λ (xs : List ℕ). take n xs) (drop-at (take (k * n) old) (new ++ tail) (k * n) a) ∙ take-at new tail n l in
+    let i : take n (drop (k * n) (take (k * n) old ++ (new ++ tail))) ≡ take n new =
+    ap (λ (xs : List ℕ). take n xs) (drop-at (take (k * n) old) (new ++ tail) (k * n) a) ∙ take-append-le n new tail l in
     rw (add-one, rows-last n k 0 (take (k * n) old ++ (new ++ tail)), z, f, g, i)
 
 -- k rows stand in the buffer, and with those that are read from q on they are all the rows
@@ -80,8 +82,8 @@ module _ (compression : ℕ) (body : List ℕ) (n rows at : ℕ) where
       first : thenRead (rowRead (rowOf compression body q n)) (λ bs p. onward bs (rowsFrom compression body n (rows - (k + 1)) p)) ≡ found ((w .left), (w .end))
       first = rw (rows-once compression body n rows k q h) at (w .to-come)
 
-      pub written-full : (m : ℕ) → m ≡ n → IsFull (rowOf compression body q m)
-      written-full m e = rw e (go (rowOf compression body q n) first)
+      pub written-full : IsFull (rowOf compression body q n)
+      written-full = go (rowOf compression body q n) first
         where
           go :
               (v : Row) → thenRead (rowRead v) (λ bs p. onward bs (rowsFrom compression body n (rows - (k + 1)) p)) ≡ found (
@@ -93,26 +95,27 @@ module _ (compression : ℕ) (body : List ℕ) (n rows at : ℕ) where
           go (short s) f = let z : _≡_ {A = ℕ} 0 1 = cc in absurd (omega arith)
 
       pub written-more :
-          (m p : ℕ) (new tail : List ℕ) → m ≡ n → k * n + n ≤ length buffer → length new ≡ m → rowOf compression body q m ≡ filled new p →
+          (p : ℕ) (new tail : List ℕ) → k * n + n ≤ length buffer → n ≤ length new → rowOf compression body q n ≡ filled (take n new) p →
           Written compression body n rows at (k + 1) p (take (k * n) buffer ++ (new ++ tail))
-      written-more m p new tail e d l i = go (rowsFrom compression body n (rows - (k + 1)) p) refl next
+      written-more p new tail d l i = go (rowsFrom compression body n (rows - (k + 1)) p) refl next
         where
-          next : onward new (rowsFrom compression body n (rows - (k + 1)) p) ≡ found ((w .left), (w .end))
-          next = rw (rw e at i) at first
+          next : onward (take n new) (rowsFrom compression body n (rows - (k + 1)) p) ≡ found ((w .left), (w .end))
+          next = rw i at first
 
           go :
-              (v : Read (List (List ℕ))) → rowsFrom compression body n (rows - (k + 1)) p ≡ v → onward new v ≡ found ((w .left), (w .end)) →
+              (v : Read (List (List ℕ))) → rowsFrom compression body n (rows - (k + 1)) p ≡ v →
+              onward (take n new) v ≡ found ((w .left), (w .end)) →
               Written compression body n rows at (k + 1) p (take (k * n) buffer ++ (new ++ tail))
           go (found (rest, r)) u f =
-              let x : w .left ≡ new ∷ rest = sym (one-value f) in
+              let x : w .left ≡ take n new ∷ rest = sym (one-value f) in
               let y : w .end ≡ r = sym (one-place f) in
               record {
                 left = rest;
                 end = r;
                 to-come = u;
                 whole = rw (
-                  rows-more n k buffer new tail d (l ∙ e),
-                  append-assoc (rowsIn n k 0 buffer) (new ∷ []) rest,
+                  rows-more n k buffer new tail d l,
+                  append-assoc (rowsIn n k 0 buffer) (take n new ∷ []) rest,
                 ) (rw (x, y) at (w .whole));
               }
           go (refused f s) u g = let z : _≡_ {A = ℕ} 0 1 = cc in absurd (omega arith)
@@ -127,15 +130,12 @@ module _ (compression : ℕ) (body : List ℕ) (n rows at : ℕ) where
         let u : rowsFrom compression body n rows at ≡ found ((rowsIn n k 0 buffer ++ []), q) = rw (x, y) at (w .whole) in
         u ∙ rw (z, append-nil (rowsIn n k 0 buffer))
 
--- the places of row k
-module _ (k rows n len : ℕ) (h : k < rows) (l : rows * n ≤ len) (f : len < 2 ^ 64) where
-  pub from-fits : Fits w64 (k * n)
-  from-fits = omega (arith, row-room k rows n h)
-
-  pub to-fits : Fits w64 (k * n + n)
-  to-fits = omega (arith, row-room k rows n h)
+-- the place of row k
+module _ (k rows n len : ℕ) (h : k < rows) (l : rows * n ≤ len) where
+  pub from-fits : len < 2 ^ 64 → Fits w64 (k * n)
+  from-fits f = omega (arith, row-room k rows n h)
 
   pub to-inside : k * n + n ≤ len
   to-inside = omega (arith, row-room k rows n h)
 
-pub ruleset writing = (written-start, from-fits, to-fits, to-inside, written-end)
+pub ruleset writing = (written-start, from-fits, to-inside, written-end)

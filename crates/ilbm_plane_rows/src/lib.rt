@@ -9,6 +9,7 @@ ghost use Prim.Native.Nat.{_+_, _*_, _≤_};
 ghost use lib.ListN.{length};
 ghost use Rattle.iff_tree.specs.Judge.{found};
 ghost use Rattle.ilbm_spec.specs.Rows.{rowLength, rowsInLine, IsRead, rowsFrom, lineBy, lineAnswer};
+ghost use Rattle.ilbm_spread.specs.Spread.{IsSpread};
 ghost use Rattle.ilbm_gather.specs.Buffer.{rowsIn};
 
 // The bytes of a plane row.
@@ -68,15 +69,16 @@ fn write_rows(
     let mut k = 0;
     while k < rows {
         let from = k * n;
-        let to = from + n;
-        q = write_row(body, q, compression, &mut buffer[from..to]);
+        q = write_row(body, q, compression, n, &mut buffer[from..]);
         k = k + 1;
     }
     q
 }
 
-// Writes a scan line that is known to be sound, and returns the place after it.
+// Writes a scan line that is known to be sound, by the table of spread bytes, and returns the place after it. Plain rows are gathered
+// from where they lie, packed ones from the buffer.
 pub fn write_line(
+    table: &[u64; 256],
     body: &[u8],
     at: usize,
     w: usize,
@@ -86,13 +88,20 @@ pub fn write_line(
     buffer: &mut [u8],
     row: &mut [u8],
 ) -> usize
+    requires { ⌜ IsSpread (now table) ⌝ }
     requires { ⌜ (w ≤ 65535) × (planes ≤ 8) × (planes ≤ rows) ⌝ }
     requires { ⌜ (rows * rowLength w ≤ length (now buffer)) × (length (now row) ≡ w) ⌝ }
     requires { ⌜ IsRead (rowsFrom compression (now body) (rowLength w) rows at) ⌝ }
     ensures { λ r. ⌜ lineBy compression w planes rows (now (body .entry)) at ≡ found ((now (row .exit)), r) ⌝ }
 {
     let n = row_length(w);
+    if compression == 0 {
+        if at <= body.len() {
+            gather(table, &body[at..], n, planes, row);
+            return at + rows * n;
+        }
+    }
     let next = write_rows(body, at, n, rows, compression, buffer);
-    gather(buffer, n, planes, row);
+    gather(table, buffer, n, planes, row);
     next
 }

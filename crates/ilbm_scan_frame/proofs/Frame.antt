@@ -2,7 +2,7 @@
 use Prim.Native.Nat.{ℕ, zero, suc, _+_, _-_, _*_, _^_, _<_, _≤_}
 use mathlib.Core.Path.{_≡_, refl, sym, ap, _∙_}
 use mathlib.Core.List.{List, [], _++_, append-assoc, append-nil}
-use lib.ListN.{length, take, length-append}
+use lib.ListN.{length, take, drop, length-append, length-drop}
 use lib.Seq.{take-at, take-all, length-take-le}
 use mir.Syntax.{w64}
 use mir.Val.{Fits}
@@ -16,6 +16,10 @@ use Rattle.ilbm_spec.specs.declared.LineAnswer.{LineAnswer}
 use Rattle.ilbm_spec.specs.declared.LineAnswer.the-variants.{Next, Refused}
 use Rattle.iff_tree.specs.Judge.{found, refused}
 use Rattle.ilbm_plane_rows.proofs.Judging.{onward, answered-onward, answered-next, answered-read, answered-refusal}
+
+-- the part of a frame that is lent for a line
+pub part-long : (a n : ℕ) (xs : List ℕ) → a + n ≤ length xs → length (take (a + n - a) (drop a xs)) ≡ n
+part-long a n xs h = let e : a + n - a ≡ n = omega arith in rw e (length-take-le n (drop a xs) (rw length-drop (omega arith)))
 
 -- a + b rows are a rows, and then b
 rows-add :

@@ -4,14 +4,17 @@ use ilbm_plane_rows::row_count;
 use ilbm_plane_rows::row_length;
 use ilbm_plane_rows::write_line;
 use ilbm_spec::LineAnswer;
+use ilbm_spread::spread_table;
 ghost use mathlib.Core.Path.{_≡_};
 ghost use Prim.Native.Nat.{_+_, _*_, _≤_};
 ghost use lib.ListN.{length};
 ghost use Rattle.iff_tree.specs.Judge.{found};
+ghost use Rattle.ilbm_spread.specs.Spread.{IsSpread};
 ghost use Rattle.ilbm_spec.specs.Rows.{rowLength, rowsInLine, IsRead, linesBy, lineAnswer, bytesAfter};
 
 // Writes scan lines that are known to be sound, one after the other, and returns the place after them.
 fn write_lines(
+    table: &[u64; 256],
     body: &[u8],
     w: usize,
     h: usize,
@@ -21,6 +24,7 @@ fn write_lines(
     buffer: &mut [u8],
     frame: &mut [u8],
 ) -> usize
+    requires { ⌜ IsSpread (now table) ⌝ }
     requires { ⌜ (w ≤ 65535) × (planes ≤ 8) × (planes ≤ rows) ⌝ }
     requires { ⌜ (rows * rowLength w ≤ length (now buffer)) × (length (now frame) ≡ w * h) ⌝ }
     requires { ⌜ IsRead (linesBy compression w planes rows (now body) h 0) ⌝ }
@@ -32,6 +36,7 @@ fn write_lines(
         let from = y * w;
         let to = from + w;
         q = write_line(
+            table,
             body,
             q,
             w,
@@ -44,6 +49,52 @@ fn write_lines(
         y = y + 1;
     }
     q
+}
+
+// Writes the scan lines of a frame that is known to be sound. The table of spread bytes is made once. Most lines have room in a small
+// buffer, which is sooner cleared. Sixteen bytes after nine rows are room for a run of the last one.
+fn write_frame(
+    body: &[u8],
+    w: usize,
+    h: usize,
+    planes: usize,
+    rows: usize,
+    compression: u8,
+    frame: &mut [u8],
+) -> usize
+    requires { ⌜ (w ≤ 65535) × (planes ≤ 8) × (planes ≤ rows) × (rows ≤ 9) ⌝ }
+    requires { ⌜ length (now frame) ≡ w * h ⌝ }
+    requires { ⌜ IsRead (linesBy compression w planes rows (now body) h 0) ⌝ }
+    ensures { λ r. ⌜ linesBy compression w planes rows (now (body .entry)) h 0 ≡ found ((now (frame .exit)), r) ⌝ }
+{
+    let table = spread_table();
+    if w <= 4096 {
+        let mut buffer = [0u8; 4624];
+        write_lines(
+            &table,
+            body,
+            w,
+            h,
+            planes,
+            rows,
+            compression,
+            &mut buffer,
+            frame,
+        )
+    } else {
+        let mut buffer = [0u8; 73744];
+        write_lines(
+            &table,
+            body,
+            w,
+            h,
+            planes,
+            rows,
+            compression,
+            &mut buffer,
+            frame,
+        )
+    }
 }
 
 // The h scan lines of a frame from the BODY's start.
@@ -66,8 +117,7 @@ pub fn scan_frame(
     let judged = judge_rows(body, 0, n, h * rows, compression);
     match judged {
         LineAnswer::Next(end) => {
-            let mut buffer = [0u8; 73728];
-            write_lines(body, w, h, planes, rows, compression, &mut buffer, frame);
+            write_frame(body, w, h, planes, rows, compression, frame);
             LineAnswer::Next(end)
         }
         LineAnswer::Refused { number, place } => LineAnswer::Refused { number, place },

@@ -4,6 +4,7 @@ use ilbm_plane_rows::row_count;
 use ilbm_plane_rows::row_length;
 use ilbm_plane_rows::write_line;
 use ilbm_spec::LineAnswer;
+use ilbm_spread::spread_table;
 ghost use mathlib.Core.Path.{_≡_};
 ghost use Prim.Native.Nat.{_+_, _*_, _≤_};
 ghost use lib.ListN.{length};
@@ -30,14 +31,16 @@ fn scan_row_in(
     let judged = judge_rows(body, at, n, rows, compression);
     match judged {
         LineAnswer::Next(next) => {
-            write_line(body, at, w, planes, rows, compression, buffer, row);
+            let table = spread_table();
+            write_line(&table, body, at, w, planes, rows, compression, buffer, row);
             LineAnswer::Next(next)
         }
         LineAnswer::Refused { number, place } => LineAnswer::Refused { number, place },
     }
 }
 
-// A scan line from a place of the BODY. Most lines have room in a small buffer, which is sooner cleared.
+// A scan line from a place of the BODY. Most lines have room in a small buffer, which is sooner cleared. Sixteen bytes after nine rows
+// are room for a run of the last one.
 pub fn scan_row(
     body: &[u8],
     at: usize,
@@ -53,10 +56,10 @@ pub fn scan_row(
     ensures bytes { λ _. ⌜ now (row .exit) ≡ bytesAfter (lineBy compression w planes (rowsInLine planes masking) (now (body .entry)) at) (now (row .entry)) ⌝ }
 {
     if w <= 4096 {
-        let mut buffer = [0u8; 4608];
+        let mut buffer = [0u8; 4624];
         scan_row_in(body, at, w, planes, masking, compression, &mut buffer, row)
     } else {
-        let mut buffer = [0u8; 73728];
+        let mut buffer = [0u8; 73744];
         scan_row_in(body, at, w, planes, masking, compression, &mut buffer, row)
     }
 }

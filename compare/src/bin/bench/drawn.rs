@@ -1,91 +1,145 @@
-//! Pictures of 320 pixels a line and 5 planes, each the same in every run.
+//! Pictures of five kinds and any shape, each the same in every run.
 
 use second::random::Random;
 use second::{write_picture, Fields, Header};
 
-pub const WIDTH: usize = 320;
-pub const HEIGHT: usize = 200;
-pub const PLANES: usize = 5;
+/// Pixels of a line, lines and planes.
+#[derive(Clone, Copy)]
+pub struct Shape {
+    pub width: usize,
+    pub height: usize,
+    pub planes: usize,
+}
 
-/// Bytes of a plane row.
-pub const ROW: usize = WIDTH / 8;
+/// The shape that most lines of the benchmark have.
+pub const SMALL: Shape = Shape { width: 320, height: 200, planes: 5 };
 
-/// A picture, its file by ByteRun1, and its plane rows.
+impl Shape {
+    /// Bytes of a plane row.
+    pub fn row(self) -> usize {
+        self.width.div_ceil(16) * 2
+    }
+
+    pub fn fields(self, compression: u8) -> Fields {
+        Fields {
+            width: self.width as u16,
+            height: self.height as u16,
+            x: 0,
+            y: 0,
+            planes: self.planes as u8,
+            masking: 0,
+            compression,
+            transparent_color: 0,
+            x_aspect: 10,
+            y_aspect: 11,
+            page_width: 320,
+            page_height: 200,
+        }
+    }
+
+    /// A frame by a colour for each pixel, of which the low bits count.
+    fn frame(self, mut colour: impl FnMut(usize, usize) -> usize) -> Vec<u8> {
+        let count = 1 << self.planes;
+        (0..self.width * self.height)
+            .map(|n| (colour(n % self.width, n / self.width) % count) as u8)
+            .collect()
+    }
+}
+
+/// A picture and its file.
 pub struct Drawn {
-    pub name: &'static str,
     pub frame: Vec<u8>,
     pub file: Vec<u8>,
-    pub rows: Vec<u8>,
 }
 
 impl Drawn {
-    fn new(name: &'static str, frame: Vec<u8>) -> Drawn {
-        let height = frame.len() / WIDTH;
-        let file = |compression| {
-            let fields = fields(height, compression);
-            write_picture(&fields, &[0; 96], &frame, usize::MAX).expect("a picture that can be written")
-        };
-        let (packed, plain) = (file(1), file(0));
-        let rows = body(&plain).1.to_vec();
-        Drawn { name, frame, file: packed, rows }
-    }
-
     /// The header and the BODY.
     pub fn body(&self) -> (Header, &[u8]) {
-        body(&self.file)
+        let told = second::properties(&self.file, 0).expect("a picture");
+        (told.header, &self.file[told.body.expect("a BODY")])
     }
 }
 
-fn body(file: &[u8]) -> (Header, &[u8]) {
-    let told = second::properties(file, 0).expect("a picture");
-    (told.header, &file[told.body.expect("a BODY")])
+/// How the pictures of a kind are drawn, each by a number of its own.
+pub struct Kind {
+    pub name: &'static str,
+    draw: fn(Shape, u64) -> Vec<u8>,
 }
 
-pub fn fields(height: usize, compression: u8) -> Fields {
-    Fields {
-        width: WIDTH as u16,
-        height: height as u16,
-        x: 0,
-        y: 0,
-        planes: PLANES as u8,
-        masking: 0,
-        compression,
-        transparent_color: 0,
-        x_aspect: 10,
-        y_aspect: 11,
-        page_width: WIDTH as i16,
-        page_height: HEIGHT as i16,
+pub const KINDS: [Kind; 5] = [
+    Kind { name: "noise", draw: noise },
+    Kind { name: "flat", draw: flat },
+    Kind { name: "mixed", draw: mixed },
+    Kind { name: "drawn", draw: drawn },
+    Kind { name: "dithered", draw: dithered },
+];
+
+/// The kinds that packing and writing are timed with.
+pub fn few() -> [&'static Kind; 3] {
+    [&KINDS[0], &KINDS[1], &KINDS[3]]
+}
+
+impl Kind {
+    pub fn picture(&self, shape: Shape, compression: u8, number: u64) -> Drawn {
+        let frame = (self.draw)(shape, number);
+        let file = write_picture(&shape.fields(compression), &[0; 96], &frame, usize::MAX);
+        Drawn { frame, file: file.expect("a picture that can be written") }
     }
 }
 
-/// Every pixel any of the 32 colours.
-fn noise(height: usize) -> Drawn {
-    let mut random = Random::new(320);
-    Drawn::new("noise", (0..WIDTH * height).map(|_| random.byte() & 31).collect())
+/// Every pixel any colour.
+fn noise(shape: Shape, number: u64) -> Vec<u8> {
+    let mut random = Random::new(320 + number);
+    shape.frame(|_, _| random.byte().into())
 }
 
 /// Bands of one colour.
-fn flat(height: usize) -> Drawn {
-    Drawn::new("flat", (0..WIDTH * height).map(|n| (n / WIDTH / 25 % 32) as u8).collect())
+fn flat(shape: Shape, number: u64) -> Vec<u8> {
+    shape.frame(|_, y| y / 25 + number as usize)
+}
+
+/// Noise in one colour: where it starts and ends is another place in each line.
+fn mixed(shape: Shape, number: u64) -> Vec<u8> {
+    let mut random = Random::new(64 + number);
+    let (mut start, mut end) = (0, 0);
+    shape.frame(|x, _| {
+        if x == 0 {
+            start = random.below(shape.width);
+            end = random.between(start, shape.width);
+        }
+        if (start..end).contains(&x) {
+            random.byte().into()
+        } else {
+            number as usize
+        }
+    })
 }
 
 /// A sky with dithered edges, a disc of rings, a text of small strokes, and
 /// grain at the right: runs and literals of many lengths.
-pub fn drawn(height: usize) -> Drawn {
-    let mut random = Random::new(1985);
-    let mut colour = |n: usize| {
-        let (x, y) = (n % WIDTH, n / WIDTH % HEIGHT);
-        let far = (x.abs_diff(130).pow(2) + y.abs_diff(90).pow(2)).isqrt();
+fn drawn(shape: Shape, number: u64) -> Vec<u8> {
+    let mut random = Random::new(1985 + number);
+    let (left, top) = (random.between(70, 190), random.between(65, 115));
+    shape.frame(|x, y| {
+        let (x, y) = (x % SMALL.width, y % SMALL.height);
+        let far = (x.abs_diff(left).pow(2) + y.abs_diff(top).pow(2)).isqrt();
         match (far, x, y) {
             (0..60, ..) => 8 + far / 5,
             (_, 250.., _) => 20 + random.below(4),
             (_, _, 150..190) if y % 10 < 7 && (x * 7 + y / 10 * 13) % 11 < 4 => 31,
             _ => y / 25 + usize::from(y % 25 > 20 && (x + y) % 2 == 0),
         }
-    };
-    Drawn::new("drawn", (0..WIDTH * height).map(|n| colour(n) as u8).collect())
+    })
 }
 
-pub fn all() -> [Drawn; 3] {
-    [noise(HEIGHT), flat(HEIGHT), drawn(HEIGHT)]
+/// A slope of shades, each pixel of one of the two nearest colours, and some
+/// of the grain that a scanned picture has.
+fn dithered(shape: Shape, number: u64) -> Vec<u8> {
+    const ORDER: [[usize; 4]; 4] = [[0, 8, 2, 10], [12, 4, 14, 6], [3, 11, 1, 9], [15, 7, 13, 5]];
+    let mut random = Random::new(4 + number);
+    let (across, down) = (random.between(2, 9), random.between(2, 9));
+    shape.frame(|x, y| {
+        let shade = (x * across + y * down + random.below(4)) / 8;
+        shade / 16 + usize::from(ORDER[y % 4][x % 4] < shade % 16)
+    })
 }

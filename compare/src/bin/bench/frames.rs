@@ -1,64 +1,82 @@
-//! Frame decoding; every buffer is cleared first.
+//! Frame decoding: 32 different pictures of a kind in turn, so that no branch
+//! predictor learns one; every buffer is cleared first.
 
-use crate::drawn::{all, drawn, Drawn, HEIGHT};
-use crate::outside::Decoder;
-use crate::timing::{beside, grown, heading, timed, Timed};
+use crate::drawn::{Drawn, Kind, Shape, KINDS, SMALL};
+use crate::outside::Outside;
+use crate::timing::{grown, steady, timed, Timed};
 use compare::plain;
 use second::{Header, Refused};
 use std::hint::black_box;
 
-fn library(picture: &Drawn) -> Timed<'_> {
-    let mut frame = vec![0; picture.frame.len()];
-    assert_eq!(florinhado::frame(&picture.file, 0, &mut frame), Ok(0));
-    assert_eq!(frame, picture.frame);
-    timed(move || {
-        frame.fill(0);
-        florinhado::frame(black_box(&picture.file), 0, black_box(&mut frame))
-    })
-}
+/// The shapes with how many different pictures of a kind are decoded in turn.
+const SHAPES: [(Shape, u64); 4] = [
+    (SMALL, 32),
+    (Shape { width: 640, height: 512, planes: 4 }, 32),
+    (Shape { width: 1_280, height: 1_024, planes: 8 }, 8),
+    (Shape { width: 65_535, height: 24, planes: 8 }, 8),
+];
 
-/// The second reader makes its own buffer.
-fn second_reader(picture: &Drawn) -> Timed<'_> {
-    timed(|| second::frame(black_box(&picture.file), 0, picture.frame.len()))
+fn library(pictures: &[Drawn]) -> Timed<'_> {
+    let mut frame = vec![0; pictures[0].frame.len()];
+    for picture in pictures {
+        assert_eq!(florinhado::frame(&picture.file, 0, &mut frame), Ok(0));
+        assert_eq!(frame, picture.frame);
+    }
+    timed(move || {
+        for picture in pictures {
+            frame.fill(0);
+            let answer = florinhado::frame(black_box(&picture.file), 0, black_box(&mut frame));
+            black_box(answer).expect("a frame");
+        }
+    })
 }
 
 /// A plain decoder is given the header and the BODY; it clears the buffer.
 type Decode = fn(&Header, &[u8], &mut [u8]) -> Result<usize, Refused>;
 
-fn plain(picture: &Drawn, decode: Decode) -> Timed<'_> {
-    let mut frame = vec![0; picture.frame.len()];
-    let (header, body) = picture.body();
-    assert_eq!(decode(&header, body, &mut frame), Ok(0));
-    assert_eq!(frame, picture.frame);
-    timed(move || decode(black_box(&header), black_box(body), black_box(&mut frame)))
+fn plain(pictures: &[Drawn], decode: Decode) -> Timed<'_> {
+    let mut frame = vec![0; pictures[0].frame.len()];
+    let bodies: Vec<_> = pictures.iter().map(Drawn::body).collect();
+    for (picture, (header, body)) in pictures.iter().zip(&bodies) {
+        assert_eq!(decode(header, body, &mut frame), Ok(0));
+        assert_eq!(frame, picture.frame);
+    }
+    timed(move || {
+        for (header, body) in &bodies {
+            let answer = decode(black_box(header), black_box(body), black_box(&mut frame));
+            black_box(answer).expect("a frame");
+        }
+    })
 }
 
-/// The plain decoders, by how they gather.
-const PLAIN: [(&str, Decode); 2] =
-    [("bit by bit", plain::frame), ("eight bits at a time", plain::frame_by_bytes)];
+fn line(kind: &Kind, shape: Shape, compression: u8, count: u64, outside: Option<&Outside>) {
+    let pictures: Vec<_> = (0..count).map(|number| kind.picture(shape, compression, number)).collect();
+    let mut programs =
+        vec![library(&pictures), plain(&pictures, plain::frame), plain(&pictures, plain::frame_by_table)];
+    programs.extend(outside.map(|outside| outside.decoder(shape, compression, &pictures)));
+    let times = steady(programs);
+    let each: String = times.iter().map(|time| format!(" {:10.1}", time / count as f64)).collect();
+    let ratios: String = times[1..].iter().map(|other| format!(" {:8.3}", times[0] / other)).collect();
+    let packing = ["plain", "packed"][usize::from(compression)];
+    println!("{:10} {packing:6}{each}   /{ratios}", kind.name);
+}
 
-pub fn against_others() {
-    heading("frame of 320 by 200, 5 planes", ["second", "plain"]);
-    for (how, decode) in PLAIN {
-        for picture in all() {
-            let programs = [library(&picture), second_reader(&picture), plain(&picture, decode)];
-            beside(&format!("{}, plain: {how}", picture.name), programs);
+/// Each kind, shape and packing, with libavcodec where it is.
+pub fn against_others(outside: Option<&Outside>) {
+    for (shape, count) in SHAPES {
+        let Shape { width, height, planes } = shape;
+        println!(
+            "\nframe of {width} by {height}, {planes} planes, {count} pictures in turn: microseconds, and"
+        );
+        println!("the library / each   library bit by bit      table libavcodec");
+        for compression in [1, 0] {
+            KINDS.iter().for_each(|kind| line(kind, shape, compression, count, outside));
         }
     }
 }
 
-/// The same beside libavcodec, which runs as another process.
-pub fn against_libavcodec(program: &str) {
-    heading("frame of 320 by 200, 5 planes", ["libavcodec", "plain"]);
-    for picture in all() {
-        let mut decoder = Decoder::start(program, &picture);
-        let outside: Timed = Box::new(move |times| decoder.run(times));
-        let name = format!("{}, plain: bit by bit", picture.name);
-        beside(&name, [library(&picture), outside, plain(&picture, plain::frame)]);
-    }
-}
-
 pub fn growth() -> f64 {
-    let (whole, half) = (drawn(2 * HEIGHT), drawn(HEIGHT));
+    let long = Shape { height: 2 * SMALL.height, ..SMALL };
+    let [whole, half] = [long, SMALL].map(|shape| [KINDS[3].picture(shape, 1, 0)]);
     grown("frame of 400 lines / 200 lines", library(&whole), library(&half))
 }

@@ -1,8 +1,10 @@
-//! `bench [LIBAVCODEC]`: times of the library beside the second reader and
-//! plain programs in Rust, each line in turns in one run, as medians. With the
-//! program of `libavcodec.c`, frame decoding beside libavcodec too. Fails if
-//! something takes more than 2.3 times as long for twice the input, or a call
-//! on a picture inside many PROPs more than twice the check.
+//! `bench [PART]`: times of the library beside the second reader and plain
+//! programs in Rust, each line in turns in one run, as medians. Of the parts
+//! structure, frames, rows and growth the one that is named, or all. Where the
+//! variable OUTSIDE names the shared object of `libavcodec.c`, frames are timed
+//! beside libavcodec too. Fails if something takes more than 2.3 times as long
+//! for twice the input, or a call on a picture inside many PROPs more than twice
+//! the check.
 
 mod drawn;
 mod frames;
@@ -13,6 +15,7 @@ mod structure;
 mod timing;
 mod writing;
 
+use outside::Outside;
 use std::process::ExitCode;
 
 /// The most that twice the input may take.
@@ -22,26 +25,39 @@ const GREATEST_GROWTH: f64 = 2.3;
 const GREATEST_SEARCH: f64 = 2.0;
 
 fn main() -> ExitCode {
-    let outside = std::env::args().nth(1);
-    structure::against_others();
-    let search = structure::through_lists();
-    listing::against_others();
-    frames::against_others();
-    packing::against_others();
-    writing::against_others();
-    match outside {
-        Some(program) => frames::against_libavcodec(&program),
-        None => println!("\nlibavcodec: not linked, left out"),
+    let named = std::env::args().nth(1);
+    let asked = |part: &str| named.as_deref().is_none_or(|name| name == part);
+    let mut within = true;
+    if asked("structure") {
+        structure::against_others();
+        within &=
+            at_most("a picture inside many PROPs, of the check", structure::through_lists(), GREATEST_SEARCH);
+        listing::against_others();
     }
-    timing::growth_heading();
-    let greatest = frames::growth().max(packing::growth()).max(writing::growth()).max(structure::growth());
-    if greatest > GREATEST_GROWTH {
-        println!("twice the input takes more than {GREATEST_GROWTH} times as long");
-        return ExitCode::FAILURE;
+    if asked("frames") {
+        let outside = std::env::var("OUTSIDE").ok().map(|name| Outside::load(&name));
+        frames::against_others(outside.as_ref());
     }
-    if search > GREATEST_SEARCH {
-        println!("a picture inside many PROPs takes more than {GREATEST_SEARCH} times the check");
-        return ExitCode::FAILURE;
+    if asked("rows") {
+        packing::against_others();
+        writing::against_others();
     }
-    ExitCode::SUCCESS
+    if asked("growth") {
+        timing::growth_heading();
+        let greatest =
+            frames::growth().max(packing::growth()).max(writing::growth()).max(structure::growth());
+        within &= at_most("twice the input", greatest, GREATEST_GROWTH);
+    }
+    if within {
+        ExitCode::SUCCESS
+    } else {
+        ExitCode::FAILURE
+    }
+}
+
+fn at_most(what: &str, ratio: f64, greatest: f64) -> bool {
+    if ratio > greatest {
+        println!("{what}: {ratio:.2} times as long, more than {greatest}");
+    }
+    ratio <= greatest
 }

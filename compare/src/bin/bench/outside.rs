@@ -1,51 +1,67 @@
-//! libavcodec's decoder of frames, in a process of its own.
+//! libavcodec's decoder of frames, in the same process: a shared object that
+//! `bench.sh` makes of `libavcodec.c`.
 
-use crate::drawn::{Drawn, HEIGHT, PLANES, WIDTH};
-use std::io::{BufRead, BufReader, Write};
-use std::process::{Child, ChildStdin, ChildStdout, Command, Stdio};
+use crate::drawn::{Drawn, Shape};
+use crate::timing::{timed, Timed};
+use std::ffi::{c_char, c_int, c_void, CString};
+use std::mem::transmute_copy;
 
-/// The running program with the BODY of one picture.
-pub struct Decoder {
-    child: Child,
-    asks: Option<ChildStdin>,
-    tells: BufReader<ChildStdout>,
-    sum: u64,
+extern "C" {
+    fn dlopen(name: *const c_char, flags: c_int) -> *mut c_void;
+    fn dlsym(library: *mut c_void, name: *const c_char) -> *mut c_void;
 }
 
-impl Decoder {
-    pub fn start(program: &str, picture: &Drawn) -> Decoder {
-        let file = std::env::temp_dir().join(format!("{}-{}.body", picture.name, std::process::id()));
-        std::fs::write(&file, picture.body().1).expect("a place for the BODY");
-        let words = [WIDTH, HEIGHT, PLANES, 1].map(|number| number.to_string());
-        let command =
-            Command::new(program).args(words).arg(&file).stdin(Stdio::piped()).stdout(Stdio::piped()).spawn();
-        let mut child = command.expect("the program of libavcodec.c");
-        let asks = child.stdin.take();
-        let tells = BufReader::new(child.stdout.take().expect("its output"));
-        let sum =
-            picture.frame.iter().fold(0u64, |sum, byte| sum.wrapping_mul(31).wrapping_add((*byte).into()));
-        let mut decoder = Decoder { child, asks, tells, sum };
-        decoder.run(1);
-        std::fs::remove_file(file).expect("the BODY's file");
-        decoder
+/// `RTLD_NOW`
+const AT_ONCE: c_int = 2;
+
+type Open = unsafe extern "C" fn(c_int, c_int, c_int, c_int) -> *mut c_void;
+type Add = unsafe extern "C" fn(*mut c_void, *const u8, usize);
+type Decode = unsafe extern "C" fn(*mut c_void, usize);
+type Copy = unsafe extern "C" fn(*const c_void, *mut u8);
+
+/// The functions of the shared object, which stays loaded.
+pub struct Outside {
+    open: Open,
+    add: Add,
+    decode: Decode,
+    copy: Copy,
+}
+
+impl Outside {
+    pub fn load(name: &str) -> Outside {
+        let name = CString::new(name).expect("a name");
+        let library = unsafe { dlopen(name.as_ptr(), AT_ONCE) };
+        assert!(!library.is_null(), "the shared object of libavcodec.c");
+        Outside {
+            open: found(library, c"outside_open"),
+            add: found(library, c"outside_add"),
+            decode: found(library, c"outside_decode"),
+            copy: found(library, c"outside_copy"),
+        }
     }
 
-    /// The seconds for so many frames, which must be the picture's.
-    pub fn run(&mut self, times: u32) -> f64 {
-        let asks = self.asks.as_mut().expect("its input");
-        writeln!(asks, "{times}").expect("its input");
-        let mut line = String::new();
-        self.tells.read_line(&mut line).expect("its output");
-        let (seconds, sum) = line.trim().split_once(' ').expect("seconds and a sum");
-        assert_eq!(sum.parse(), Ok(self.sum), "libavcodec's frame differs");
-        seconds.parse().expect("seconds")
+    /// Decodes all the pictures once, after it has been seen to give their frames.
+    pub fn decoder<'a>(&self, shape: Shape, compression: u8, pictures: &[Drawn]) -> Timed<'a> {
+        let [width, height, planes] = [shape.width, shape.height, shape.planes].map(|n| n as c_int);
+        let decoder = unsafe { (self.open)(width, height, planes, compression.into()) };
+        let mut frame = vec![0; shape.width * shape.height];
+        for (number, picture) in pictures.iter().enumerate() {
+            let body = picture.body().1;
+            unsafe {
+                (self.add)(decoder, body.as_ptr(), body.len());
+                (self.decode)(decoder, number);
+                (self.copy)(decoder, frame.as_mut_ptr());
+            }
+            assert!(frame == picture.frame, "libavcodec's frame differs");
+        }
+        let (decode, count) = (self.decode, pictures.len());
+        timed(move || (0..count).for_each(|number| unsafe { decode(decoder, number) }))
     }
 }
 
-impl Drop for Decoder {
-    /// The program ends with its input.
-    fn drop(&mut self) {
-        self.asks = None;
-        let _ = self.child.wait();
-    }
+/// A function of the shared object, whose type the caller knows.
+fn found<T>(library: *mut c_void, name: &std::ffi::CStr) -> T {
+    let at = unsafe { dlsym(library, name.as_ptr()) };
+    assert!(!at.is_null(), "{name:?} is missing");
+    unsafe { transmute_copy(&at) }
 }

@@ -54,6 +54,23 @@ fn in_turns<const COUNT: usize>(mut programs: [Timed; COUNT]) -> Told<COUNT> {
     Told { micros: column(&|turn, n| turn[n]), ratios: column(&|turn, n| turn[0] / turn[n]) }
 }
 
+/// How long a turn of a program in its steady state takes at least, in seconds,
+/// and how many turns there are.
+const LONG: (f64, usize) = (5e-3, 31);
+
+/// The median microseconds of a run of each program, in turns that are long
+/// enough for caches and predictors to be its own.
+pub fn steady(mut programs: Vec<Timed>) -> Vec<f64> {
+    let mut turns: Vec<Vec<f64>> = Vec::new();
+    let times: Vec<u32> =
+        programs.iter_mut().map(|program| (LONG.0 / program(1)).clamp(1.0, 1e6).ceil() as u32).collect();
+    for _ in 0..LONG.1 {
+        let turn = programs.iter_mut().zip(&times);
+        turns.push(turn.map(|(program, times)| program(*times) / f64::from(*times) * 1e6).collect());
+    }
+    (0..programs.len()).map(|n| median(turns.iter().map(|turn| turn[n]).collect())).collect()
+}
+
 /// The heading of lines of the library beside others.
 pub fn heading(what: &str, others: [&str; 2]) {
     let [a, b] = others;

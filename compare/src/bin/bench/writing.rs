@@ -1,6 +1,6 @@
 //! The picture writer, with packed rows.
 
-use crate::drawn::{all, drawn, fields, Drawn, HEIGHT, WIDTH};
+use crate::drawn::{few, Drawn, Shape, KINDS, SMALL};
 use crate::timing::{beside, grown, heading, timed, Timed};
 use compare::plain;
 use second::Fields;
@@ -10,7 +10,8 @@ const PALETTE: [u8; 96] = [0; 96];
 
 /// Writes the picture into a cleared buffer of twice its pixels.
 fn written<'a>(picture: &'a Drawn, write: impl Fn(&Fields, &[u8], &mut [u8]) -> usize + 'a) -> Timed<'a> {
-    let fields = fields(picture.frame.len() / WIDTH, 1);
+    let shape = Shape { height: picture.frame.len() / SMALL.width, ..SMALL };
+    let fields = shape.fields(1);
     let mut out = vec![0; 2 * picture.frame.len()];
     let mut run = move || {
         out.fill(0);
@@ -53,12 +54,14 @@ fn plain(picture: &Drawn) -> Timed<'_> {
 
 pub fn against_others() {
     heading("writing of 320 by 200, 5 planes, packed", ["second", "plain"]);
-    for picture in all() {
-        beside(picture.name, [library(&picture), second_writer(&picture), plain(&picture)]);
+    for kind in few() {
+        let picture = kind.picture(SMALL, 1, 0);
+        beside(kind.name, [library(&picture), second_writer(&picture), plain(&picture)]);
     }
 }
 
 pub fn growth() -> f64 {
-    let (whole, half) = (drawn(2 * HEIGHT), drawn(HEIGHT));
+    let long = Shape { height: 2 * SMALL.height, ..SMALL };
+    let [whole, half] = [long, SMALL].map(|shape| KINDS[3].picture(shape, 1, 0));
     grown("writing of 400 lines / 200 lines", library(&whole), library(&half))
 }

@@ -1,20 +1,21 @@
--- `write_packed` meets its contract. The loop's invariant: the first `done` bytes of the row, before what is left of it, read from `next`, are the whole
--- row; the measure is what is left of the BODY. The whole row is full, so no code is refused.
+-- `write_packed` meets its contract. The loop's invariant: the first `done` bytes of the row, before what is left of its n, read from
+-- `next`, are the whole row; the measure is what is left of the BODY. The whole row is full, so no code is refused.
 use Prim.Native.Nat.{_-_, _≤_}
 use mathlib.Core.Path.{_≡_}
 use lib.ListN.{length, take}
 use borrow.Author.Needs.{needs}
 use Rattle.byterun_row.specs.ByteRun.{unpackRow, prepend}
-use Rattle.byterun_unpack.proofs.Steps.{writing, write-copied, write-repeated}
+use Rattle.byterun_unpack.proofs.Steps.{writing, write-copy, write-repeat}
 use Rattle.byterun_unpack.proofs.write_packed.Statement.{statement}
 use Rattle.byterun_unpack.proofs.write_packed.Tie as tie
 
 abbrev Inv-loop : tie.InvT-loop
-Inv-loop body at row₀ next₀ done₀ row next done =
-    (done ≤ length row) × (length row ≡ length row₀) × (prepend (take done row) (unpackRow body next (length row - done)) ≡ unpackRow body at (length row₀))
+Inv-loop body at n row₀ next₀ done₀ row next done =
+    (done ≤ n) × (n ≤ length row) × (length row ≡ length row₀)
+    × (prepend (take done row) (unpackRow body next (n - done)) ≡ unpackRow body at n)
 
 abbrev μ-loop : tie.MeasureT-loop
-μ-loop body at row₀ next₀ done₀ row next done = length body - next
+μ-loop body at n row₀ next₀ done₀ row next done = length body - next
 
 loop-holds : tie.Need-loop-holds Inv-loop μ-loop
 loop-holds c = search (writing, needs)
@@ -49,11 +50,11 @@ loop-again c = search (writing, needs)
 enum-known-code : tie.Need-enum-known-code Inv-loop μ-loop
 enum-known-code c = search (writing, needs)
 
-add-copy-run : tie.Need-add-copy-run Inv-loop μ-loop
-add-copy-run c = search (writing, needs)
+add-copy-over : tie.Need-add-copy-over Inv-loop μ-loop
+add-copy-over c = search (writing, needs)
 
-copy-run-requires : tie.Need-copy-run-requires Inv-loop μ-loop
-copy-run-requires c κs = search (writing, needs)
+copy-over-requires : tie.Need-copy-over-requires Inv-loop μ-loop
+copy-over-requires c κs = search (writing, needs)
 
 add-next-2 : tie.Need-add-next-2 Inv-loop μ-loop
 add-next-2 c = search (writing, needs)
@@ -70,14 +71,15 @@ loop-less-2 c = search (writing, needs)
 loop-again-2 : tie.Need-loop-again-2 Inv-loop μ-loop
 loop-again-2 c =
     let a = c .before .before .before .before .before in
-    let l = a .before .before .before .before .loop in
-    write-copied _ _ _ _ _ (a .before .before .code-at .ensures) (a .before .before .before .loop-test .taken) _ (l .inv .2) _ (l .inv .1) _ _ (a .code .given .1) (c .before .before .copy-run .ensures)
+    let l = a .before .before .before in
+    let t = write-copy _ _ _ _ _ (a .before .before .code-at .ensures) (l .loop-test .taken) _ _ (l .before .loop .inv .3) in
+    (search (writing, needs), search needs, search needs, t _ _ (a .code .given .1) (c .before .before .copy-over .ensures))
 
 enum-known-code-2 : tie.Need-enum-known-code-2 Inv-loop μ-loop
 enum-known-code-2 c = search (writing, needs)
 
-fill-run-requires : tie.Need-fill-run-requires Inv-loop μ-loop
-fill-run-requires c κs = search (writing, needs)
+fill-over-requires : tie.Need-fill-over-requires Inv-loop μ-loop
+fill-over-requires c κs = search (writing, needs)
 
 add-next-4 : tie.Need-add-next-4 Inv-loop μ-loop
 add-next-4 c = search (writing, needs)
@@ -91,8 +93,9 @@ loop-less-3 c = search (writing, needs)
 loop-again-3 : tie.Need-loop-again-3 Inv-loop μ-loop
 loop-again-3 c =
     let a = c .before .before .before .before .before in
-    let l = a .before .before .before .before .loop in
-    write-repeated _ _ _ _ _ (a .before .before .code-at .ensures) (a .before .before .before .loop-test .taken) _ (l .inv .2) _ (l .inv .1) _ _ _ (a .code2 .given .1) (c .before .before .fill-run .ensures)
+    let l = a .before .before .before in
+    let t = write-repeat _ _ _ _ _ (a .before .before .code-at .ensures) (l .loop-test .taken) _ _ (l .before .loop .inv .3) in
+    (search (writing, needs), search needs, search needs, t _ _ _ (a .code2 .given .1) (c .before .before .fill-over .ensures))
 
 enum-told-3 : tie.Need-enum-told-3 Inv-loop μ-loop
 enum-told-3 c = search (writing, needs)
@@ -135,15 +138,15 @@ write-packed-spec =
     loop-less
     loop-again
     enum-known-code
-    add-copy-run
-    copy-run-requires
+    add-copy-over
+    copy-over-requires
     add-next-2
     add-next-3
     add-done
     loop-less-2
     loop-again-2
     enum-known-code-2
-    fill-run-requires
+    fill-over-requires
     add-next-4
     add-done-2
     loop-less-3

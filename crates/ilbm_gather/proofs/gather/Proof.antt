@@ -9,11 +9,11 @@ use Rattle.ilbm_gather.proofs.gather.Statement.{statement}
 use Rattle.ilbm_gather.proofs.gather.Tie as tie
 
 abbrev Inv-loop : tie.InvT-loop
-Inv-loop buffer n planes row₀ x₀ row x =
+Inv-loop table buffer n planes row₀ x₀ row x =
     (x ≤ length row₀) × (length row ≡ length row₀) × Gathered (rowsIn n planes 0 buffer) x row
 
 abbrev μ-loop : tie.MeasureT-loop
-μ-loop buffer n planes row₀ x₀ row x = length row₀ - x
+μ-loop table buffer n planes row₀ x₀ row x = length row₀ - x
 
 gather-bytes-requires : tie.Need-gather-bytes-requires Inv-loop μ-loop
 gather-bytes-requires c κs = search needs

@@ -6,16 +6,16 @@ use lib.ListN.{length}
 use borrow.Author.Needs.{needs}
 use Rattle.ilbm_gather.specs.Buffer.{rowsIn}
 use Rattle.ilbm_gather.proofs.Colours.{Gathered, gathering}
-use Rattle.ilbm_gather.proofs.Eights.{eights}
+use Rattle.ilbm_gather.proofs.Eights.{eights, gathered-eight}
 use Rattle.ilbm_gather.proofs.gather_bytes.Statement.{statement}
 use Rattle.ilbm_gather.proofs.gather_bytes.Tie as tie
 
 abbrev Inv-loop : tie.InvT-loop
-Inv-loop buffer n planes row₀ bytes j₀ row j =
+Inv-loop table buffer n planes row₀ bytes j₀ row j =
     (j ≤ bytes) × (length row ≡ length row₀) × Gathered (rowsIn n planes 0 buffer) (8 * j) row
 
 abbrev μ-loop : tie.MeasureT-loop
-μ-loop buffer n planes row₀ bytes j₀ row j = bytes - j
+μ-loop table buffer n planes row₀ bytes j₀ row j = bytes - j
 
 loop-holds : tie.Need-loop-holds Inv-loop μ-loop
 loop-holds c = search (gathering, eights, needs)
@@ -36,7 +36,11 @@ loop-less : tie.Need-loop-less Inv-loop μ-loop
 loop-less c = search (gathering, eights, needs)
 
 loop-again : tie.Need-loop-again Inv-loop μ-loop
-loop-again c = search (gathering, eights, needs)
+loop-again c =
+    let e = c .before .before .before in
+    let g = e .before .before .before .loop .inv .2 in
+    let p = c .before .before .put-eight .ensures in
+    (search needs, search needs, gathered-eight _ _ _ (search needs) _ _ _ _ g (e .eight-at .ensures) (search (eights, needs)) p)
 
 mul-result : tie.Need-mul-result Inv-loop μ-loop
 mul-result c = search (gathering, eights, needs)

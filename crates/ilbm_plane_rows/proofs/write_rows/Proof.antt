@@ -1,4 +1,5 @@
--- `write_rows` meets its contract. The loop's invariant: the first k rows stand in the buffer, and those from q on are the others; the measure is their number.
+-- `write_rows` meets its contract. The loop's invariant: the first k rows stand in the buffer, and those from q on are the others; the
+-- measure is their number. What is written behind row k stands where the rows after it come.
 use Prim.Native.Nat.{_+_, _*_, _-_, _≤_}
 use mathlib.Core.Path.{_≡_, _∙_}
 use native.Mathlib.Omega.{arith}
@@ -22,7 +23,7 @@ room :
     c .before .loop .k * c .before .before .before .before .args .n + c .before .before .before .before .args .n ≤ length (c .before .loop .buffer)
 room c =
     let a = c .before .before .before .before in
-    omega (arith, to-inside (c .before .loop .k) (a .args .rows) (a .args .n) (length (a .args .buffer .now)) (search needs) (search needs) (search needs))
+    omega (arith, to-inside (c .before .loop .k) (a .args .rows) (a .args .n) (length (a .args .buffer .now)) (search needs) (search needs))
 
 loop-holds : tie.Need-loop-holds Inv-loop μ-loop
 loop-holds c = search (writing, needs)
@@ -30,22 +31,20 @@ loop-holds c = search (writing, needs)
 mul-from : tie.Need-mul-from Inv-loop μ-loop
 mul-from c = search (writing, needs)
 
-add-to : tie.Need-add-to Inv-loop μ-loop
-add-to c = search (writing, needs)
-
 sub-write-row : tie.Need-sub-write-row Inv-loop μ-loop
-sub-write-row c = search (writing, needs)
+sub-write-row c = let h = room c in omega arith
 
 part-write-row-start : tie.Need-part-write-row-start Inv-loop μ-loop
-part-write-row-start c = search (writing, needs)
+part-write-row-start c = let h = room c in omega arith
 
 part-write-row-end : tie.Need-part-write-row-end Inv-loop μ-loop
-part-write-row-end c = room c
+part-write-row-end c = search needs
 
 write-row-requires : tie.Need-write-row-requires Inv-loop μ-loop
 write-row-requires c κs =
     let b = c .before in
-    written-full _ _ _ _ _ _ _ _ (b .before .loop .inv .2) (b .loop-test .taken) _ (part-long _ _ _ (room b))
+    let n = b .before .before .before .before .args .n in
+    (part-long (b .before .loop .k * n) n (b .before .loop .buffer) (room b), written-full _ _ _ _ _ _ _ _ (b .before .loop .inv .2) (b .loop-test .taken))
 
 add-k : tie.Need-add-k Inv-loop μ-loop
 add-k c = search (writing, needs)
@@ -59,10 +58,13 @@ loop-again c =
     let n = b .before .before .before .before .args .n in
     let from = b .before .loop .k * n in
     let buffer = b .before .loop .buffer in
-    let w = c .before .before .write-row in (
+    let w = c .before .before .write-row in
+    let new = w .last .1 .1 .1 .1 .0 in
+    let kept = w .kept .1 .1 .1 .1 .0 in
+    let long = part-long from n buffer (room b) in (
       search needs,
-      same-len-mid from (from + n - from) buffer (w .last .1 .1 .1 .0) (w .kept .1 .1 .1 .0) ∙ b .before .loop .inv .1,
-      written-more _ _ _ _ _ _ _ buffer (b .before .loop .inv .2) (b .loop-test .taken) _ (w .result) (w .last .1 .1 .1 .0) _ (part-long from n buffer (room b)) (room b) (w .kept .1 .1 .1 .0) (w .ensures),
+      same-len-mid from (length buffer - from) buffer new kept ∙ b .before .loop .inv .1,
+      written-more _ _ _ _ _ _ _ buffer (b .before .loop .inv .2) (b .loop-test .taken) (w .result) new _ (room b) (omega arith) (w .ensures),
     )
 
 same-length : tie.Need-same-length Inv-loop μ-loop
@@ -79,7 +81,6 @@ write-rows-spec =
     μ-loop
     loop-holds
     mul-from
-    add-to
     sub-write-row
     part-write-row-start
     part-write-row-end

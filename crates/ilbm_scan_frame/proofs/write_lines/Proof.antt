@@ -5,17 +5,16 @@ use native.Mathlib.Omega.{arith}
 use lib.ListN.{length}
 use borrow.Author.Needs.{needs}
 use borrow.Rule.Slice.PartMut.{same-len-mid}
-use Rattle.ilbm_plane_rows.proofs.Writing.{part-long}
-use Rattle.ilbm_scan_frame.proofs.Frame.{Drawn, drawing, line-inside, drawn-line, drawn-more, drawn-end}
+use Rattle.ilbm_scan_frame.proofs.Frame.{Drawn, drawing, part-long, line-inside, drawn-line, drawn-more, drawn-end}
 use Rattle.ilbm_scan_frame.proofs.write_lines.Statement.{statement}
 use Rattle.ilbm_scan_frame.proofs.write_lines.Tie as tie
 
 abbrev Inv-loop : tie.InvT-loop
-Inv-loop body w h planes rows compression buffer₀ frame₀ q₀ y₀ buffer frame q y =
+Inv-loop table body w h planes rows compression buffer₀ frame₀ q₀ y₀ buffer frame q y =
     (y ≤ h) × (length buffer ≡ length buffer₀) × (length frame ≡ length frame₀) × Drawn compression w planes rows body h y q frame
 
 abbrev μ-loop : tie.MeasureT-loop
-μ-loop body w h planes rows compression buffer₀ frame₀ q₀ y₀ buffer frame q y = h - y
+μ-loop table body w h planes rows compression buffer₀ frame₀ q₀ y₀ buffer frame q y = h - y
 
 -- line y lies inside the frame
 room :
@@ -46,7 +45,8 @@ part-write-line-end c = room (c .before)
 write-line-requires : tie.Need-write-line-requires Inv-loop μ-loop
 write-line-requires c κs =
     let b = c .before .before in
-    (search needs, ((search needs, part-long _ _ _ (room b)), drawn-line _ _ _ _ _ _ _ _ _ (b .before .loop .inv .3) (b .loop-test .taken)))
+    let line = drawn-line _ _ _ _ _ _ _ _ _ (b .before .loop .inv .3) (b .loop-test .taken) in
+    (search needs, (search needs, ((search needs, part-long _ _ _ (room b)), line)))
 
 add-y : tie.Need-add-y Inv-loop μ-loop
 add-y c = search (drawing, needs)
@@ -61,10 +61,10 @@ loop-again c =
     let from = b .before .loop .y * w in
     let frame = b .before .loop .frame in
     let l = c .before .before .before .before .write-line in
-    let new = l .last .1 .1 .1 .1 .1 .1 .1 .0 in
-    let kept = l .kept .1 .1 .1 .1 .1 .1 .1 .0 in (
+    let new = l .last .1 .1 .1 .1 .1 .1 .1 .1 .0 in
+    let kept = l .kept .1 .1 .1 .1 .1 .1 .1 .1 .0 in (
       search needs,
-      l .kept .1 .1 .1 .1 .1 .1 .0 ∙ b .before .loop .inv .1,
+      l .kept .1 .1 .1 .1 .1 .1 .1 .0 ∙ b .before .loop .inv .1,
       same-len-mid from (from + w - from) frame new kept ∙ b .before .loop .inv .2,
       drawn-more _ _ _ _ _ _ _ _ frame (b .before .loop .inv .3) (b .loop-test .taken) (l .result) new _ (room b) (kept ∙
           part-long from w frame (room b)) (l .ensures),
@@ -80,7 +80,7 @@ returns : tie.Need-returns Inv-loop μ-loop
 returns c =
     let a = c .before in
     drawn-end _ _ _ _ _ _ _ _ _ (a .loop .inv .3) (a .loop .inv .0) (c .loop-test .left) (a .loop .inv .2 ∙
-    a .before .before .before .before .pre .1 .0 .1)
+    a .before .before .before .before .pre .1 .1 .0 .1)
 
 pub write-lines-spec : {M : Type 1} → statement M
 write-lines-spec =

@@ -1,0 +1,99 @@
+// Runs of bytes written sixteen at a time: what stands behind a run may be written over, where there is room for it.
+use byterun_copy::copy_eight;
+use byterun_copy::copy_run;
+use byterun_copy::fill_run;
+ghost use mathlib.Core.Path.{_≡_};
+ghost use mathlib.Core.List.{_++_};
+ghost use Prim.Native.Nat.{_+_, _≤_};
+ghost use lib.ListN.{length, take, drop, replicate};
+ghost use lib.Seq.{paste};
+
+// Copies sixteen bytes of src, from `from` on, into dst, from `at` on.
+fn copy_sixteen(src: &[u8], from: usize, dst: &mut [u8], at: usize)
+    requires { ⌜ from + 16 ≤ length (now src) ⌝ }
+    requires { ⌜ at + 16 ≤ length (now dst) ⌝ }
+    ensures { λ _. ⌜ now (dst .exit) ≡ paste (now (dst .entry)) at (drop from (now (src .entry))) 16 ⌝ }
+{
+    copy_eight(src, from, dst, at);
+    copy_eight(src, from + 8, dst, at + 8);
+}
+
+// Copies the bytes of a run by sixteens, the last of which may reach behind the run.
+fn copy_sixteens(src: &[u8], from: usize, dst: &mut [u8], at: usize, count: usize)
+    requires { ⌜ from + count + 16 ≤ length (now src) ⌝ }
+    requires { ⌜ at + count + 16 ≤ length (now dst) ⌝ }
+    ensures { λ _. ⌜ take (at + count) (now (dst .exit)) ≡ take at (now (dst .entry)) ++ take count (drop from (now (src .entry))) ⌝ }
+{
+    copy_sixteen(src, from, dst, at);
+    let mut k = 16;
+    while k < count {
+        copy_sixteen(src, from + k, dst, at + k);
+        k += 16;
+    }
+}
+
+// Copies count bytes of src, from `from` on, into dst, from `at` on; what stands in dst behind them is free.
+pub fn copy_over(src: &[u8], from: usize, dst: &mut [u8], at: usize, count: usize)
+    requires { ⌜ from + count ≤ length (now src) ⌝ }
+    requires { ⌜ at + count ≤ length (now dst) ⌝ }
+    ensures { λ _. ⌜ take (at + count) (now (dst .exit)) ≡ take at (now (dst .entry)) ++ take count (drop from (now (src .entry))) ⌝ }
+{
+    if src.len() - from - count < 16 {
+        copy_run(src, from, dst, at, count);
+        return;
+    }
+    if dst.len() - at - count < 16 {
+        copy_run(src, from, dst, at, count);
+        return;
+    }
+    copy_sixteens(src, from, dst, at, count);
+}
+
+// Writes eight bytes b into dst, from `at` on.
+fn fill_eight(dst: &mut [u8], at: usize, b: u8)
+    requires { ⌜ at + 8 ≤ length (now dst) ⌝ }
+    ensures { λ _. ⌜ now (dst .exit) ≡ paste (now (dst .entry)) at (replicate 8 b) 8 ⌝ }
+{
+    dst[at] = b;
+    dst[at + 1] = b;
+    dst[at + 2] = b;
+    dst[at + 3] = b;
+    dst[at + 4] = b;
+    dst[at + 5] = b;
+    dst[at + 6] = b;
+    dst[at + 7] = b;
+}
+
+// Writes sixteen bytes b into dst, from `at` on.
+fn fill_sixteen(dst: &mut [u8], at: usize, b: u8)
+    requires { ⌜ at + 16 ≤ length (now dst) ⌝ }
+    ensures { λ _. ⌜ now (dst .exit) ≡ paste (now (dst .entry)) at (replicate 16 b) 16 ⌝ }
+{
+    fill_eight(dst, at, b);
+    fill_eight(dst, at + 8, b);
+}
+
+// Writes the bytes of a repeat by sixteens, the last of which may reach behind the repeat.
+fn fill_sixteens(dst: &mut [u8], at: usize, times: usize, b: u8)
+    requires { ⌜ at + times + 16 ≤ length (now dst) ⌝ }
+    ensures { λ _. ⌜ take (at + times) (now (dst .exit)) ≡ take at (now (dst .entry)) ++ replicate times b ⌝ }
+{
+    fill_sixteen(dst, at, b);
+    let mut k = 16;
+    while k < times {
+        fill_sixteen(dst, at + k, b);
+        k += 16;
+    }
+}
+
+// Writes times bytes b into dst, from `at` on; what stands in dst behind them is free.
+pub fn fill_over(dst: &mut [u8], at: usize, times: usize, b: u8)
+    requires { ⌜ at + times ≤ length (now dst) ⌝ }
+    ensures { λ _. ⌜ take (at + times) (now (dst .exit)) ≡ take at (now (dst .entry)) ++ replicate times b ⌝ }
+{
+    if dst.len() - at - times < 16 {
+        fill_run(dst, at, times, b);
+        return;
+    }
+    fill_sixteens(dst, at, times, b);
+}
