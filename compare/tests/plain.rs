@@ -61,7 +61,7 @@ fn frames() {
             let pixels = usize::from(told.header.width) * usize::from(told.header.height);
             let known = second::frame(&file, picture, pixels);
             for decode in [plain::frame, plain::frame_by_table] {
-                let mut frame = vec![9; pixels];
+                let mut frame = vec![0; pixels];
                 let leftover = decode(&told.header, body, &mut frame);
                 assert_eq!(leftover.map(|leftover| second::Frame { colours: frame, leftover }), known);
             }

@@ -2,8 +2,8 @@
 
 use second::{Header, Refused};
 
-/// Decodes a BODY into `frame`, which must have w times h bytes, pixel by pixel
-/// and bit by bit. Returns the count of BODY bytes left over; after 26 or 27
+/// Decodes a BODY into `frame`, which must have w times h bytes, all 0, pixel by
+/// pixel and bit by bit. Returns the count of BODY bytes left over; after 26 or 27
 /// the frame is partly written.
 pub fn frame(header: &Header, body: &[u8], frame: &mut [u8]) -> Result<usize, Refused> {
     let width = usize::from(header.width);
@@ -11,7 +11,6 @@ pub fn frame(header: &Header, body: &[u8], frame: &mut [u8]) -> Result<usize, Re
     let length = width.div_ceil(16) * 2;
     let mut rows = vec![0; length * (planes + usize::from(header.masking == 1))];
     let mut place = 0;
-    frame.fill(0);
     for line in frame.chunks_exact_mut(width) {
         for row in rows.chunks_exact_mut(length) {
             place = read_row(header, body, place, row)?;

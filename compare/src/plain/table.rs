@@ -25,7 +25,6 @@ const ROOM: usize = 128 + STEP;
 /// Decodes a BODY into `frame`, which must have w times h bytes. Returns the
 /// count of BODY bytes left over; after 26 or 27 the frame is partly written.
 pub fn frame_by_table(header: &Header, body: &[u8], frame: &mut [u8]) -> Result<usize, Refused> {
-    frame.fill(0);
     match header.planes {
         0 => lines::<0>(header, body, frame),
         1 => lines::<1>(header, body, frame),

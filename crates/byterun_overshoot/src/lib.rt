@@ -1,4 +1,4 @@
-// Runs of bytes written sixteen at a time: what stands behind a run may be written over, where there is room for it.
+// Runs of bytes written in steps of 32: what stands behind a run may be written over, where there is room for it.
 use byterun_copy::copy_eight;
 use byterun_copy::copy_run;
 use byterun_copy::fill_run;
@@ -18,17 +18,27 @@ fn copy_sixteen(src: &[u8], from: usize, dst: &mut [u8], at: usize)
     copy_eight(src, from + 8, dst, at + 8);
 }
 
-// Copies the bytes of a run by sixteens, the last of which may reach behind the run.
-fn copy_sixteens(src: &[u8], from: usize, dst: &mut [u8], at: usize, count: usize)
-    requires { ⌜ from + count + 16 ≤ length (now src) ⌝ }
-    requires { ⌜ at + count + 16 ≤ length (now dst) ⌝ }
-    ensures { λ _. ⌜ take (at + count) (now (dst .exit)) ≡ take at (now (dst .entry)) ++ take count (drop from (now (src .entry))) ⌝ }
+// Copies 32 bytes of src, from `from` on, into dst, from `at` on.
+fn copy_step(src: &[u8], from: usize, dst: &mut [u8], at: usize)
+    requires { ⌜ from + 32 ≤ length (now src) ⌝ }
+    requires { ⌜ at + 32 ≤ length (now dst) ⌝ }
+    ensures { λ _. ⌜ now (dst .exit) ≡ paste (now (dst .entry)) at (drop from (now (src .entry))) 32 ⌝ }
 {
     copy_sixteen(src, from, dst, at);
-    let mut k = 16;
+    copy_sixteen(src, from + 16, dst, at + 16);
+}
+
+// Copies the bytes of a run step by step, the last of which may reach behind the run.
+fn copy_steps(src: &[u8], from: usize, dst: &mut [u8], at: usize, count: usize)
+    requires { ⌜ from + count + 32 ≤ length (now src) ⌝ }
+    requires { ⌜ at + count + 32 ≤ length (now dst) ⌝ }
+    ensures { λ _. ⌜ take (at + count) (now (dst .exit)) ≡ take at (now (dst .entry)) ++ take count (drop from (now (src .entry))) ⌝ }
+{
+    copy_step(src, from, dst, at);
+    let mut k = 32;
     while k < count {
-        copy_sixteen(src, from + k, dst, at + k);
-        k += 16;
+        copy_step(src, from + k, dst, at + k);
+        k += 32;
     }
 }
 
@@ -38,15 +48,15 @@ pub fn copy_over(src: &[u8], from: usize, dst: &mut [u8], at: usize, count: usiz
     requires { ⌜ at + count ≤ length (now dst) ⌝ }
     ensures { λ _. ⌜ take (at + count) (now (dst .exit)) ≡ take at (now (dst .entry)) ++ take count (drop from (now (src .entry))) ⌝ }
 {
-    if src.len() - from - count < 16 {
+    if src.len() - from - count < 32 {
         copy_run(src, from, dst, at, count);
         return;
     }
-    if dst.len() - at - count < 16 {
+    if dst.len() - at - count < 32 {
         copy_run(src, from, dst, at, count);
         return;
     }
-    copy_sixteens(src, from, dst, at, count);
+    copy_steps(src, from, dst, at, count);
 }
 
 // Writes eight bytes b into dst, from `at` on.
@@ -73,16 +83,25 @@ fn fill_sixteen(dst: &mut [u8], at: usize, b: u8)
     fill_eight(dst, at + 8, b);
 }
 
-// Writes the bytes of a repeat by sixteens, the last of which may reach behind the repeat.
-fn fill_sixteens(dst: &mut [u8], at: usize, times: usize, b: u8)
-    requires { ⌜ at + times + 16 ≤ length (now dst) ⌝ }
-    ensures { λ _. ⌜ take (at + times) (now (dst .exit)) ≡ take at (now (dst .entry)) ++ replicate times b ⌝ }
+// Writes 32 bytes b into dst, from `at` on.
+fn fill_step(dst: &mut [u8], at: usize, b: u8)
+    requires { ⌜ at + 32 ≤ length (now dst) ⌝ }
+    ensures { λ _. ⌜ now (dst .exit) ≡ paste (now (dst .entry)) at (replicate 32 b) 32 ⌝ }
 {
     fill_sixteen(dst, at, b);
-    let mut k = 16;
+    fill_sixteen(dst, at + 16, b);
+}
+
+// Writes the bytes of a repeat step by step, the last of which may reach behind the repeat.
+fn fill_steps(dst: &mut [u8], at: usize, times: usize, b: u8)
+    requires { ⌜ at + times + 32 ≤ length (now dst) ⌝ }
+    ensures { λ _. ⌜ take (at + times) (now (dst .exit)) ≡ take at (now (dst .entry)) ++ replicate times b ⌝ }
+{
+    fill_step(dst, at, b);
+    let mut k = 32;
     while k < times {
-        fill_sixteen(dst, at + k, b);
-        k += 16;
+        fill_step(dst, at + k, b);
+        k += 32;
     }
 }
 
@@ -91,9 +110,9 @@ pub fn fill_over(dst: &mut [u8], at: usize, times: usize, b: u8)
     requires { ⌜ at + times ≤ length (now dst) ⌝ }
     ensures { λ _. ⌜ take (at + times) (now (dst .exit)) ≡ take at (now (dst .entry)) ++ replicate times b ⌝ }
 {
-    if dst.len() - at - times < 16 {
+    if dst.len() - at - times < 32 {
         fill_run(dst, at, times, b);
         return;
     }
-    fill_sixteens(dst, at, times, b);
+    fill_steps(dst, at, times, b);
 }

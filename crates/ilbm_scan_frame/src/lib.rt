@@ -52,7 +52,7 @@ fn write_lines(
 }
 
 // Writes the scan lines of a frame that is known to be sound. The table of spread bytes is made once. Most lines have room in a small
-// buffer, which is sooner cleared. Sixteen bytes after nine rows are room for a run of the last one.
+// buffer, which is sooner cleared. Behind nine rows there are 32 bytes more, so that runs of the last row are written in whole steps too.
 fn write_frame(
     body: &[u8],
     w: usize,
@@ -69,7 +69,7 @@ fn write_frame(
 {
     let table = spread_table();
     if w <= 4096 {
-        let mut buffer = [0u8; 4624];
+        let mut buffer = [0u8; 4640];
         write_lines(
             &table,
             body,
@@ -82,7 +82,7 @@ fn write_frame(
             frame,
         )
     } else {
-        let mut buffer = [0u8; 73744];
+        let mut buffer = [0u8; 73760];
         write_lines(
             &table,
             body,

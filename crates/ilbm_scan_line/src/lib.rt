@@ -39,8 +39,8 @@ fn scan_row_in(
     }
 }
 
-// A scan line from a place of the BODY. Most lines have room in a small buffer, which is sooner cleared. Sixteen bytes after nine rows
-// are room for a run of the last one.
+// A scan line from a place of the BODY. Most lines have room in a small buffer, which is sooner cleared. Behind nine rows there are 32
+// bytes more, so that runs of the last row are written in whole steps too.
 pub fn scan_row(
     body: &[u8],
     at: usize,
@@ -56,10 +56,10 @@ pub fn scan_row(
     ensures bytes { λ _. ⌜ now (row .exit) ≡ bytesAfter (lineBy compression w planes (rowsInLine planes masking) (now (body .entry)) at) (now (row .entry)) ⌝ }
 {
     if w <= 4096 {
-        let mut buffer = [0u8; 4624];
+        let mut buffer = [0u8; 4640];
         scan_row_in(body, at, w, planes, masking, compression, &mut buffer, row)
     } else {
-        let mut buffer = [0u8; 73744];
+        let mut buffer = [0u8; 73760];
         scan_row_in(body, at, w, planes, masking, compression, &mut buffer, row)
     }
 }

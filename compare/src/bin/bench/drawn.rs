@@ -137,7 +137,7 @@ fn drawn(shape: Shape, number: u64) -> Vec<u8> {
 fn dithered(shape: Shape, number: u64) -> Vec<u8> {
     const ORDER: [[usize; 4]; 4] = [[0, 8, 2, 10], [12, 4, 14, 6], [3, 11, 1, 9], [15, 7, 13, 5]];
     let mut random = Random::new(4 + number);
-    let (across, down) = (random.between(2, 9), random.between(2, 9));
+    let (across, down) = (random.between(4, 18), random.between(4, 18));
     shape.frame(|x, y| {
         let shade = (x * across + y * down + random.below(4)) / 8;
         shade / 16 + usize::from(ORDER[y % 4][x % 4] < shade % 16)

@@ -1,12 +1,14 @@
 //! Frame decoding: 32 different pictures of a kind in turn, so that no branch
-//! predictor learns one; every buffer is cleared first.
+//! predictor learns one. The frame is cleared before each, and the clock stands
+//! still meanwhile.
 
 use crate::drawn::{Drawn, Kind, Shape, KINDS, SMALL};
 use crate::outside::Outside;
-use crate::timing::{grown, steady, timed, Timed};
+use crate::timing::{grown, steady, Timed};
 use compare::plain;
 use second::{Header, Refused};
 use std::hint::black_box;
+use std::time::Instant;
 
 /// The shapes with how many different pictures of a kind are decoded in turn.
 const SHAPES: [(Shape, u64); 4] = [
@@ -16,36 +18,40 @@ const SHAPES: [(Shape, u64); 4] = [
     (Shape { width: 65_535, height: 24, planes: 8 }, 8),
 ];
 
-fn library(pictures: &[Drawn]) -> Timed<'_> {
+/// Decodes all the pictures once into a frame that is cleared before each.
+fn decoded<'a>(pictures: &'a [Drawn], mut decode: impl FnMut(usize, &mut [u8]) + 'a) -> Timed<'a> {
     let mut frame = vec![0; pictures[0].frame.len()];
-    for picture in pictures {
-        assert_eq!(florinhado::frame(&picture.file, 0, &mut frame), Ok(0));
-        assert_eq!(frame, picture.frame);
+    for (number, picture) in pictures.iter().enumerate() {
+        decode(number, &mut frame);
+        assert!(frame == picture.frame, "another frame");
+        frame.fill(0);
     }
-    timed(move || {
-        for picture in pictures {
-            frame.fill(0);
-            let answer = florinhado::frame(black_box(&picture.file), 0, black_box(&mut frame));
-            black_box(answer).expect("a frame");
+    Box::new(move |times| {
+        let mut seconds = 0.0;
+        for number in (0..times).flat_map(|_| 0..pictures.len()) {
+            black_box(&mut frame).fill(0);
+            let start = Instant::now();
+            decode(black_box(number), black_box(&mut frame));
+            seconds += start.elapsed().as_secs_f64();
         }
+        seconds
     })
 }
 
-/// A plain decoder is given the header and the BODY; it clears the buffer.
+fn library(pictures: &[Drawn]) -> Timed<'_> {
+    decoded(pictures, |number, frame| {
+        assert_eq!(florinhado::frame(&pictures[number].file, 0, frame), Ok(0));
+    })
+}
+
+/// A plain decoder is given the header and the BODY, and a cleared frame.
 type Decode = fn(&Header, &[u8], &mut [u8]) -> Result<usize, Refused>;
 
 fn plain(pictures: &[Drawn], decode: Decode) -> Timed<'_> {
-    let mut frame = vec![0; pictures[0].frame.len()];
     let bodies: Vec<_> = pictures.iter().map(Drawn::body).collect();
-    for (picture, (header, body)) in pictures.iter().zip(&bodies) {
-        assert_eq!(decode(header, body, &mut frame), Ok(0));
-        assert_eq!(frame, picture.frame);
-    }
-    timed(move || {
-        for (header, body) in &bodies {
-            let answer = decode(black_box(header), black_box(body), black_box(&mut frame));
-            black_box(answer).expect("a frame");
-        }
+    decoded(pictures, move |number, frame| {
+        let (header, body) = &bodies[number];
+        assert_eq!(decode(header, body, frame), Ok(0));
     })
 }
 

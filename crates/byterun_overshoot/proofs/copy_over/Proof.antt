@@ -1,4 +1,4 @@
--- A run that is written whole, and one that is written by sixteens, have the same first bytes.
+-- A run that is written whole, and one that is written step by step, have the same first bytes.
 use Rattle.byterun_overshoot.proofs.Overshoot.{laws}
 use borrow.Author.Needs.{needs}
 use Rattle.byterun_overshoot.proofs.copy_over.Statement.{statement}
@@ -34,8 +34,8 @@ same-length-2 c = search needs
 returns-2 : tie.Need-returns-2
 returns-2 c = search (laws, needs)
 
-copy-sixteens-requires : tie.Need-copy-sixteens-requires
-copy-sixteens-requires c κs = search needs
+copy-steps-requires : tie.Need-copy-steps-requires
+copy-steps-requires c κs = search needs
 
 same-length-3 : tie.Need-same-length-3
 same-length-3 c = search needs
@@ -57,6 +57,6 @@ copy-over-spec =
     copy-run-requires-2
     same-length-2
     returns-2
-    copy-sixteens-requires
+    copy-steps-requires
     same-length-3
     returns-3)

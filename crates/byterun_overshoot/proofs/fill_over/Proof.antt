@@ -1,4 +1,4 @@
--- A repeat that is written whole, and one that is written by sixteens, have the same first bytes.
+-- A repeat that is written whole, and one that is written step by step, have the same first bytes.
 use Rattle.byterun_overshoot.proofs.Overshoot.{laws}
 use borrow.Author.Needs.{needs}
 use Rattle.byterun_overshoot.proofs.fill_over.Statement.{statement}
@@ -19,8 +19,8 @@ same-length c = search needs
 returns : tie.Need-returns
 returns c = search (laws, needs)
 
-fill-sixteens-requires : tie.Need-fill-sixteens-requires
-fill-sixteens-requires c κs = search needs
+fill-steps-requires : tie.Need-fill-steps-requires
+fill-steps-requires c κs = search needs
 
 same-length-2 : tie.Need-same-length-2
 same-length-2 c = search needs
@@ -37,6 +37,6 @@ fill-over-spec =
     fill-run-requires
     same-length
     returns
-    fill-sixteens-requires
+    fill-steps-requires
     same-length-2
     returns-2)

@@ -17,7 +17,7 @@ same-length : tie.Need-same-length
 same-length c = search needs
 
 returns : tie.Need-returns
-returns c = search (fill-twice, needs)
+returns c = search (fill-twice 8, needs)
 
 pub fill-sixteen-spec : {M : Type 1} → statement M
 fill-sixteen-spec =

@@ -15,7 +15,7 @@ slice-aggregate-write-lines c = search needs
 
 write-lines-requires : tie.Need-write-lines-requires
 write-lines-requires c κs =
-    let long = length-replicate {A = ℕ} 4624 0 in
+    let long = length-replicate {A = ℕ} 4640 0 in
     (search needs, (search needs, ((rows-room _ _ 512 _ (search needs) (omega arith) (omega arith), search needs), search needs)))
 
 slice-aggregate-write-lines-2 : tie.Need-slice-aggregate-write-lines-2
@@ -23,7 +23,7 @@ slice-aggregate-write-lines-2 c = search needs
 
 write-lines-requires-2 : tie.Need-write-lines-requires-2
 write-lines-requires-2 c κs =
-    let long = length-replicate {A = ℕ} 73744 0 in
+    let long = length-replicate {A = ℕ} 73760 0 in
     (search needs, (search needs, ((rows-room _ _ 8192 _ (search needs) (omega arith) (omega arith), search needs), search needs)))
 
 same-length : tie.Need-same-length

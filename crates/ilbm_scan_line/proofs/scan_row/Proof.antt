@@ -14,7 +14,7 @@ scan-row-in-requires : tie.Need-scan-row-in-requires
 scan-row-in-requires c κs =
     let s = c .before .before .before .before .before .args in
     let rows = line-rows (s .planes) (s .masking) (search needs) in
-    let long = length-replicate {A = ℕ} 4624 0 in
+    let long = length-replicate {A = ℕ} 4640 0 in
     (search needs, (rows-room _ (s .w) 512 _ rows (omega arith) (omega arith), search needs))
 
 slice-aggregate-scan-row-in-2 : tie.Need-slice-aggregate-scan-row-in-2
@@ -24,7 +24,7 @@ scan-row-in-requires-2 : tie.Need-scan-row-in-requires-2
 scan-row-in-requires-2 c κs =
     let s = c .before .before .before .before .before .args in
     let rows = line-rows (s .planes) (s .masking) (search needs) in
-    let long = length-replicate {A = ℕ} 73744 0 in
+    let long = length-replicate {A = ℕ} 73760 0 in
     (search needs, (rows-room _ (s .w) 8192 _ rows (omega arith) (omega arith), search needs))
 
 same-length : tie.Need-same-length

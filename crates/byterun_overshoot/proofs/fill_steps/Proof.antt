@@ -6,8 +6,8 @@ use mathlib.Core.List.{_++_}
 use lib.ListN.{length, take, replicate}
 use borrow.Author.Needs.{needs}
 use Rattle.byterun_overshoot.proofs.Overshoot.{laws, fill-more}
-use Rattle.byterun_overshoot.proofs.fill_sixteens.Statement.{statement}
-use Rattle.byterun_overshoot.proofs.fill_sixteens.Tie as tie
+use Rattle.byterun_overshoot.proofs.fill_steps.Statement.{statement}
+use Rattle.byterun_overshoot.proofs.fill_steps.Tie as tie
 
 abbrev Inv-loop : tie.InvT-loop
 Inv-loop dst₀ at times b k₀ dst k =
@@ -16,17 +16,17 @@ Inv-loop dst₀ at times b k₀ dst k =
 abbrev μ-loop : tie.MeasureT-loop
 μ-loop dst₀ at times b k₀ dst k = times - k
 
-fill-sixteen-requires : tie.Need-fill-sixteen-requires Inv-loop μ-loop
-fill-sixteen-requires c κs = search needs
+fill-step-requires : tie.Need-fill-step-requires Inv-loop μ-loop
+fill-step-requires c κs = search needs
 
 loop-holds : tie.Need-loop-holds Inv-loop μ-loop
 loop-holds c = search (laws, needs)
 
-add-fill-sixteen : tie.Need-add-fill-sixteen Inv-loop μ-loop
-add-fill-sixteen c = search needs
+add-fill-step : tie.Need-add-fill-step Inv-loop μ-loop
+add-fill-step c = search needs
 
-fill-sixteen-requires-2 : tie.Need-fill-sixteen-requires-2 Inv-loop μ-loop
-fill-sixteen-requires-2 c κs = search needs
+fill-step-requires-2 : tie.Need-fill-step-requires-2 Inv-loop μ-loop
+fill-step-requires-2 c κs = search needs
 
 add-k : tie.Need-add-k Inv-loop μ-loop
 add-k c = search needs
@@ -37,7 +37,7 @@ loop-less c = search needs
 loop-again : tie.Need-loop-again Inv-loop μ-loop
 loop-again c =
     let l = c .before .before .before .before in
-    let e = c .before .before .fill-sixteen2 .ensures in
+    let e = c .before .before .fill-step2 .ensures in
     (search needs, fill-more _ _ _ _ _ _ _ e (l .loop-test .taken) (l .before .loop .inv .1) (search needs))
 
 same-length : tie.Need-same-length Inv-loop μ-loop
@@ -46,16 +46,16 @@ same-length c = search needs
 returns : tie.Need-returns Inv-loop μ-loop
 returns c = search (laws, needs)
 
-pub fill-sixteens-spec : {M : Type 1} → statement M
-fill-sixteens-spec =
+pub fill-steps-spec : {M : Type 1} → statement M
+fill-steps-spec =
     tie.close
     (tie.spec
     Inv-loop
     μ-loop
-    fill-sixteen-requires
+    fill-step-requires
     loop-holds
-    add-fill-sixteen
-    fill-sixteen-requires-2
+    add-fill-step
+    fill-step-requires-2
     add-k
     loop-less
     loop-again
