@@ -10,7 +10,8 @@ const fn spread() -> [u64; 256] {
     let mut table = [0; 256];
     let mut n = 0;
     while n < 256 * 8 {
-        table[n / 8] |= (n as u64 / 8 >> (7 - n % 8) & 1) << (n % 8 * 8);
+        let (byte, j) = (n / 8, n % 8);
+        table[byte] |= ((byte >> (7 - j)) as u64 & 1) << (8 * j);
         n += 1;
     }
     table
@@ -63,23 +64,19 @@ fn lines<const PLANES: usize>(header: &Header, body: &[u8], frame: &mut [u8]) ->
     Ok(body.len() - place)
 }
 
+/// The pixels of a line, eight at a time; the last of them may be fewer.
 fn gather<const PLANES: usize>(rows: &[u8], length: usize, line: &mut [u8]) {
-    let eights = line.len() / 8;
-    let planes: [&[u8]; PLANES] = std::array::from_fn(|plane| &rows[plane * length..][..length]);
-    let word =
-        |byte: usize| planes.iter().rev().fold(0, |word, row| word << 1 | SPREAD[usize::from(row[byte])]);
-    let (whole, rest) = line.split_at_mut(eights * 8);
-    let short: [&[u8]; PLANES] = std::array::from_fn(|plane| &planes[plane][..whole.len() / 8]);
-    for (byte, pixels) in whole.chunks_exact_mut(8).enumerate() {
-        let mut word = 0;
-        for plane in 0..PLANES {
-            word |= SPREAD[usize::from(short[plane][byte])] << plane;
-        }
+    let whole = line.len() / 8;
+    let (eights, rest) = line.split_at_mut(8 * whole);
+    let planes: [&[u8]; PLANES] = std::array::from_fn(|plane| &rows[plane * length..][..whole]);
+    for (byte, pixels) in eights.chunks_exact_mut(8).enumerate() {
+        let word = planes.iter().rev().fold(0, |word, row| (word << 1) | SPREAD[usize::from(row[byte])]);
         pixels.copy_from_slice(&word.to_le_bytes());
     }
     if !rest.is_empty() {
-        let last = rest.len();
-        rest.copy_from_slice(&word(eights).to_le_bytes()[..last]);
+        let last = |plane: usize| SPREAD[usize::from(rows[plane * length + whole])];
+        let word = (0..PLANES).rev().fold(0, |word, plane| (word << 1) | last(plane));
+        rest.copy_from_slice(&word.to_le_bytes()[..rest.len()]);
     }
 }
 
