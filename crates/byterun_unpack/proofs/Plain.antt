@@ -1,6 +1,6 @@
 -- A plain row is its part of the BODY; what was judged of a row, and what was then written, settle its answer and its bytes.
 use Prim.Native.Nat.{ℕ, _+_, _-_, _^_, _<_, _≤_}
-use mathlib.Core.Path.{_≡_, refl, sym, _∙_}
+use mathlib.Core.Path.{_≡_, refl, sym, ap, _∙_}
 use mathlib.Core.List.{List}
 use mathlib.Core.Bool.{Bool, true, false}
 use lib.ListN.{length, take, drop, length-drop}
@@ -45,12 +45,14 @@ module _ (body : List ℕ) (at n : ℕ) (f : IsFull (plainRow body at n)) (z : n
 
 pub ruleset plain = (plain-empty, plain-inside, plain-fits, plain-written)
 
+-- a row that is all of the buffer
+pub whole-row : (v : Row) (r n : ℕ) (row : List ℕ) → length row ≡ n → v ≡ filled (take n row) r → v ≡ filled row r
+whole-row v r n row l e = e ∙ ap (λ (bs : List ℕ). filled bs r) (take-all n row (omega arith))
+
 -- the ways through `read_row`
 module _ (row : Row) (r : RowAnswer) (is : r ≡ answerOf row) where
-  pub read-full :
-      (q p : ℕ) (old new : List ℕ) → r ≡ Full q → row ≡ filled (take (length old) new) p → length new ≡ length old →
-      (Full q ≡ answerOf row) × (new ≡ bytesAfter row old)
-  read-full q p old new e w l = (sym e ∙ is, rw w (sym (take-all (length old) new (omega arith))))
+  pub read-full : (q p : ℕ) (old new : List ℕ) → r ≡ Full q → row ≡ filled new p → (Full q ≡ answerOf row) × (new ≡ bytesAfter row old)
+  read-full q p old new e w = (sym e ∙ is, rw w)
 
   pub read-over : (q : ℕ) (old : List ℕ) → r ≡ Oversteps q → (Oversteps q ≡ answerOf row) × (old ≡ bytesAfter row old)
   read-over q old e = (sym e ∙ is, go row (sym is ∙ e))

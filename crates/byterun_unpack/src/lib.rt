@@ -62,17 +62,26 @@ fn write_plain(body: &[u8], at: usize, n: usize, row: &mut [u8]) -> usize
     at + n
 }
 
-// Writes a row of n bytes that is known to be whole, and returns the place after it; what stands behind the n bytes is free.
-pub fn write_row(body: &[u8], at: usize, compression: u8, n: usize, row: &mut [u8]) -> usize
-    requires { ⌜ n ≤ length (now row) ⌝ }
+// Writes a row of n bytes that is known to be whole to the start of a buffer, where what stands behind it is free, and returns the place
+// after it.
+pub fn unpack_into(body: &[u8], at: usize, compression: u8, n: usize, buffer: &mut [u8]) -> usize
+    requires { ⌜ n ≤ length (now buffer) ⌝ }
     requires { ⌜ IsFull (rowOf compression (now body) at n) ⌝ }
-    ensures { λ r. ⌜ rowOf compression (now (body .entry)) at n ≡ filled (take n (now (row .exit))) r ⌝ }
+    ensures { λ r. ⌜ rowOf compression (now (body .entry)) at n ≡ filled (take n (now (buffer .exit))) r ⌝ }
 {
     if compression == 0 {
-        write_plain(body, at, n, row)
+        write_plain(body, at, n, buffer)
     } else {
-        write_packed(body, at, n, row)
+        write_packed(body, at, n, buffer)
     }
+}
+
+// Writes a row that is known to be whole, and returns the place after it.
+pub fn write_row(body: &[u8], at: usize, compression: u8, row: &mut [u8]) -> usize
+    requires { ⌜ IsFull (rowOf compression (now body) at (length (now row))) ⌝ }
+    ensures { λ r. ⌜ rowOf compression (now (body .entry)) at (length (now (row .entry))) ≡ filled (now (row .exit)) r ⌝ }
+{
+    unpack_into(body, at, compression, row.len(), row)
 }
 
 // Reads a row; a refusal leaves it as it was.
@@ -83,7 +92,7 @@ pub fn read_row(body: &[u8], at: usize, compression: u8, row: &mut [u8]) -> RowA
     let answer = judge_row(body, at, row.len(), compression);
     match answer {
         RowAnswer::Full(next) => {
-            write_row(body, at, compression, row.len(), row);
+            write_row(body, at, compression, row);
             RowAnswer::Full(next)
         }
         RowAnswer::Oversteps(place) => RowAnswer::Oversteps(place),

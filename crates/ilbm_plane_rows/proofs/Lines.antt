@@ -15,7 +15,7 @@ use Rattle.ilbm_spec.specs.declared.LineAnswer.{LineAnswer}
 use Rattle.iff_tree.specs.Judge.{found, refused}
 use Rattle.ilbm_spec.specs.declared.LineAnswer.the-variants.{Next, Refused}
 
--- a line has at most nine rows, which have room in a buffer of nine times their length or more
+-- a line has at most nine rows, which have room in a buffer of nine times their length
 pub line-rows : (planes masking : ℕ) → planes ≤ 8 → rowsInLine planes masking ≤ 9
 line-rows planes masking h = go (eqb masking 1)
   where
@@ -23,7 +23,7 @@ line-rows planes masking h = go (eqb masking 1)
     go true = omega arith
     go false = omega arith
 
-pub rows-room : (rows w n len : ℕ) → rows ≤ 9 → rowLength w ≤ n → 9 * n ≤ len → rows * rowLength w ≤ len
+pub rows-room : (rows w n len : ℕ) → rows ≤ 9 → rowLength w ≤ n → len ≡ 9 * n → rows * rowLength w ≤ len
 rows-room rows w n len h g e = omega (arith, mul-le-mul-right {m = rows} {n = 9} (rowLength w) h)
 
 pub count-room : (rows m k len : ℕ) → rows ≡ m → m * k ≤ len → rows * k ≤ len

@@ -1,9 +1,10 @@
 // The plane rows of a BODY: judged with no byte written, and written as a scan line once they are known to be sound.
 use byterun_row::RowAnswer;
 use byterun_row::judge_row;
-use byterun_unpack::write_row;
+use byterun_unpack::unpack_into;
 use ilbm_gather::gather;
 use ilbm_spec::LineAnswer;
+use ilbm_spread::spread_table;
 ghost use mathlib.Core.Path.{_≡_};
 ghost use Prim.Native.Nat.{_+_, _*_, _≤_};
 ghost use lib.ListN.{length};
@@ -69,7 +70,7 @@ fn write_rows(
     let mut k = 0;
     while k < rows {
         let from = k * n;
-        q = write_row(body, q, compression, n, &mut buffer[from..]);
+        q = unpack_into(body, q, compression, n, &mut buffer[from..]);
         k = k + 1;
     }
     q
@@ -77,7 +78,7 @@ fn write_rows(
 
 // Writes a scan line that is known to be sound, by the table of spread bytes, and returns the place after it. Plain rows are gathered
 // from where they lie, packed ones from the buffer.
-pub fn write_line(
+pub fn write_line_by(
     table: &[u64; 256],
     body: &[u8],
     at: usize,
@@ -104,4 +105,24 @@ pub fn write_line(
     let next = write_rows(body, at, n, rows, compression, buffer);
     gather(table, buffer, n, planes, row);
     next
+}
+
+// Writes a scan line that is known to be sound, and returns the place after it.
+pub fn write_line(
+    body: &[u8],
+    at: usize,
+    w: usize,
+    planes: usize,
+    rows: usize,
+    compression: u8,
+    buffer: &mut [u8],
+    row: &mut [u8],
+) -> usize
+    requires { ⌜ (w ≤ 65535) × (planes ≤ 8) × (planes ≤ rows) ⌝ }
+    requires { ⌜ (rows * rowLength w ≤ length (now buffer)) × (length (now row) ≡ w) ⌝ }
+    requires { ⌜ IsRead (rowsFrom compression (now body) (rowLength w) rows at) ⌝ }
+    ensures { λ r. ⌜ lineBy compression w planes rows (now (body .entry)) at ≡ found ((now (row .exit)), r) ⌝ }
+{
+    let table = spread_table();
+    write_line_by(&table, body, at, w, planes, rows, compression, buffer, row)
 }

@@ -2,7 +2,7 @@
 use ilbm_plane_rows::judge_rows;
 use ilbm_plane_rows::row_count;
 use ilbm_plane_rows::row_length;
-use ilbm_plane_rows::write_line;
+use ilbm_plane_rows::write_line_by;
 use ilbm_spec::LineAnswer;
 use ilbm_spread::spread_table;
 ghost use mathlib.Core.Path.{_≡_};
@@ -35,7 +35,7 @@ fn write_lines(
     while y < h {
         let from = y * w;
         let to = from + w;
-        q = write_line(
+        q = write_line_by(
             table,
             body,
             q,
@@ -52,7 +52,7 @@ fn write_lines(
 }
 
 // Writes the scan lines of a frame that is known to be sound. The table of spread bytes is made once. Most lines have room in a small
-// buffer, which is sooner cleared. Behind nine rows there are 32 bytes more, so that runs of the last row are written in whole steps too.
+// buffer, which is sooner cleared.
 fn write_frame(
     body: &[u8],
     w: usize,
@@ -69,7 +69,7 @@ fn write_frame(
 {
     let table = spread_table();
     if w <= 4096 {
-        let mut buffer = [0u8; 4640];
+        let mut buffer = [0u8; 4608];
         write_lines(
             &table,
             body,
@@ -82,7 +82,7 @@ fn write_frame(
             frame,
         )
     } else {
-        let mut buffer = [0u8; 73760];
+        let mut buffer = [0u8; 73728];
         write_lines(
             &table,
             body,

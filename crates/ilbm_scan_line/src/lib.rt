@@ -4,7 +4,6 @@ use ilbm_plane_rows::row_count;
 use ilbm_plane_rows::row_length;
 use ilbm_plane_rows::write_line;
 use ilbm_spec::LineAnswer;
-use ilbm_spread::spread_table;
 ghost use mathlib.Core.Path.{_≡_};
 ghost use Prim.Native.Nat.{_+_, _*_, _≤_};
 ghost use lib.ListN.{length};
@@ -31,16 +30,14 @@ fn scan_row_in(
     let judged = judge_rows(body, at, n, rows, compression);
     match judged {
         LineAnswer::Next(next) => {
-            let table = spread_table();
-            write_line(&table, body, at, w, planes, rows, compression, buffer, row);
+            write_line(body, at, w, planes, rows, compression, buffer, row);
             LineAnswer::Next(next)
         }
         LineAnswer::Refused { number, place } => LineAnswer::Refused { number, place },
     }
 }
 
-// A scan line from a place of the BODY. Most lines have room in a small buffer, which is sooner cleared. Behind nine rows there are 32
-// bytes more, so that runs of the last row are written in whole steps too.
+// A scan line from a place of the BODY. Most lines have room in a small buffer, which is sooner cleared.
 pub fn scan_row(
     body: &[u8],
     at: usize,
@@ -56,10 +53,10 @@ pub fn scan_row(
     ensures bytes { λ _. ⌜ now (row .exit) ≡ bytesAfter (lineBy compression w planes (rowsInLine planes masking) (now (body .entry)) at) (now (row .entry)) ⌝ }
 {
     if w <= 4096 {
-        let mut buffer = [0u8; 4640];
+        let mut buffer = [0u8; 4608];
         scan_row_in(body, at, w, planes, masking, compression, &mut buffer, row)
     } else {
-        let mut buffer = [0u8; 73760];
+        let mut buffer = [0u8; 73728];
         scan_row_in(body, at, w, planes, masking, compression, &mut buffer, row)
     }
 }

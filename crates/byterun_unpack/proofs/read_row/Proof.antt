@@ -18,10 +18,7 @@ enum-known-answer : tie.Need-enum-known-answer
 enum-known-answer c = search needs
 
 write-row-requires : tie.Need-write-row-requires
-write-row-requires c κs =
-    let a = c .before .before in
-    let s = asked (a .before .before .before .before .before) in
-    (search needs, judged-full s _ (a .before .before .judge-row .ensures) _ (a .answer .given .1))
+write-row-requires c κs = judged-full (asked (c .before .before .before .before .before .before .before)) _ (c .before .before .before .before .judge-row .ensures) _ (c .before .before .answer .given .1)
 
 enum-known-answer-2 : tie.Need-enum-known-answer-2
 enum-known-answer-2 c = search needs
@@ -35,19 +32,13 @@ same-length c = search needs
 returns : tie.Need-returns
 returns c =
     let a = c .before .before .before .before .before in
-    let w = c .before .before .write-row .ensures in
-    let s = asked (a .before .before .before .before .before) in
-    read-full s _ (a .before .before .judge-row .ensures) _ _ _ _ (a .answer .given .1) w (search needs)
+    read-full (asked (a .before .before .before .before .before)) _ (a .before .before .judge-row .ensures) _ _ _ _ (a .answer .given .1) (c .before .before .write-row .ensures)
 
 returns-2 : tie.Need-returns-2
-returns-2 c =
-    let a = c .before in
-    read-over (asked (a .before .before .before .before .before)) _ (a .before .before .judge-row .ensures) _ _ (a .answer2 .given .1)
+returns-2 c = read-over (asked (c .before .before .before .before .before .before)) _ (c .before .before .before .judge-row .ensures) _ _ (c .before .answer2 .given .1)
 
 returns-3 : tie.Need-returns-3
-returns-3 c =
-    let a = c .before in
-    read-short (asked (a .before .before .before .before .before)) _ (a .before .before .judge-row .ensures) _ _ (a .answer3 .given .1)
+returns-3 c = read-short (asked (c .before .before .before .before .before .before)) _ (c .before .before .before .judge-row .ensures) _ _ (c .before .answer3 .given .1)
 
 pub read-row-spec : {M : Type 1} → statement M
 read-row-spec =

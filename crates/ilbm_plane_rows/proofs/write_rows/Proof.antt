@@ -31,17 +31,17 @@ loop-holds c = search (writing, needs)
 mul-from : tie.Need-mul-from Inv-loop μ-loop
 mul-from c = search (writing, needs)
 
-sub-write-row : tie.Need-sub-write-row Inv-loop μ-loop
-sub-write-row c = let h = room c in omega arith
+sub-unpack-into : tie.Need-sub-unpack-into Inv-loop μ-loop
+sub-unpack-into c = let h = room c in omega arith
 
-part-write-row-start : tie.Need-part-write-row-start Inv-loop μ-loop
-part-write-row-start c = let h = room c in omega arith
+part-unpack-into-start : tie.Need-part-unpack-into-start Inv-loop μ-loop
+part-unpack-into-start c = let h = room c in omega arith
 
-part-write-row-end : tie.Need-part-write-row-end Inv-loop μ-loop
-part-write-row-end c = search needs
+part-unpack-into-end : tie.Need-part-unpack-into-end Inv-loop μ-loop
+part-unpack-into-end c = search needs
 
-write-row-requires : tie.Need-write-row-requires Inv-loop μ-loop
-write-row-requires c κs =
+unpack-into-requires : tie.Need-unpack-into-requires Inv-loop μ-loop
+unpack-into-requires c κs =
     let b = c .before in
     let n = b .before .before .before .before .args .n in
     (part-long (b .before .loop .k * n) n (b .before .loop .buffer) (room b), written-full _ _ _ _ _ _ _ _ (b .before .loop .inv .2) (b .loop-test .taken))
@@ -58,7 +58,7 @@ loop-again c =
     let n = b .before .before .before .before .args .n in
     let from = b .before .loop .k * n in
     let buffer = b .before .loop .buffer in
-    let w = c .before .before .write-row in
+    let w = c .before .before .unpack-into in
     let new = w .last .1 .1 .1 .1 .0 in
     let kept = w .kept .1 .1 .1 .1 .0 in
     let long = part-long from n buffer (room b) in (
@@ -81,10 +81,10 @@ write-rows-spec =
     μ-loop
     loop-holds
     mul-from
-    sub-write-row
-    part-write-row-start
-    part-write-row-end
-    write-row-requires
+    sub-unpack-into
+    part-unpack-into-start
+    part-unpack-into-end
+    unpack-into-requires
     add-k
     loop-less
     loop-again

@@ -15,16 +15,16 @@ slice-aggregate-write-lines c = search needs
 
 write-lines-requires : tie.Need-write-lines-requires
 write-lines-requires c κs =
-    let long = length-replicate {A = ℕ} 4640 0 in
-    (search needs, (search needs, ((rows-room _ _ 512 _ (search needs) (omega arith) (omega arith), search needs), search needs)))
+    let long = length-replicate {A = ℕ} 4608 0 in
+    (search needs, (search needs, ((rows-room _ _ 512 _ (search needs) (omega arith) long, search needs), search needs)))
 
 slice-aggregate-write-lines-2 : tie.Need-slice-aggregate-write-lines-2
 slice-aggregate-write-lines-2 c = search needs
 
 write-lines-requires-2 : tie.Need-write-lines-requires-2
 write-lines-requires-2 c κs =
-    let long = length-replicate {A = ℕ} 73760 0 in
-    (search needs, (search needs, ((rows-room _ _ 8192 _ (search needs) (omega arith) (omega arith), search needs), search needs)))
+    let long = length-replicate {A = ℕ} 73728 0 in
+    (search needs, (search needs, ((rows-room _ _ 8192 _ (search needs) (omega arith) long, search needs), search needs)))
 
 same-length : tie.Need-same-length
 same-length c = search needs

@@ -33,17 +33,17 @@ mul-from c = search (drawing, needs)
 add-to : tie.Need-add-to Inv-loop μ-loop
 add-to c = search (drawing, needs)
 
-sub-write-line : tie.Need-sub-write-line Inv-loop μ-loop
-sub-write-line c = search (drawing, needs)
+sub-write-line-by : tie.Need-sub-write-line-by Inv-loop μ-loop
+sub-write-line-by c = search (drawing, needs)
 
-part-write-line-start : tie.Need-part-write-line-start Inv-loop μ-loop
-part-write-line-start c = search (drawing, needs)
+part-write-line-by-start : tie.Need-part-write-line-by-start Inv-loop μ-loop
+part-write-line-by-start c = search (drawing, needs)
 
-part-write-line-end : tie.Need-part-write-line-end Inv-loop μ-loop
-part-write-line-end c = room (c .before)
+part-write-line-by-end : tie.Need-part-write-line-by-end Inv-loop μ-loop
+part-write-line-by-end c = room (c .before)
 
-write-line-requires : tie.Need-write-line-requires Inv-loop μ-loop
-write-line-requires c κs =
+write-line-by-requires : tie.Need-write-line-by-requires Inv-loop μ-loop
+write-line-by-requires c κs =
     let b = c .before .before in
     let line = drawn-line _ _ _ _ _ _ _ _ _ (b .before .loop .inv .3) (b .loop-test .taken) in
     (search needs, (search needs, ((search needs, part-long _ _ _ (room b)), line)))
@@ -60,7 +60,7 @@ loop-again c =
     let w = b .before .before .before .before .before .args .w in
     let from = b .before .loop .y * w in
     let frame = b .before .loop .frame in
-    let l = c .before .before .before .before .write-line in
+    let l = c .before .before .before .before .write-line-by in
     let new = l .last .1 .1 .1 .1 .1 .1 .1 .1 .0 in
     let kept = l .kept .1 .1 .1 .1 .1 .1 .1 .1 .0 in (
       search needs,
@@ -91,10 +91,10 @@ write-lines-spec =
     loop-holds
     mul-from
     add-to
-    sub-write-line
-    part-write-line-start
-    part-write-line-end
-    write-line-requires
+    sub-write-line-by
+    part-write-line-by-start
+    part-write-line-by-end
+    write-line-by-requires
     add-y
     loop-less
     loop-again

@@ -13,9 +13,7 @@ slice-aggregate-scan-row-in c = search needs
 scan-row-in-requires : tie.Need-scan-row-in-requires
 scan-row-in-requires c κs =
     let s = c .before .before .before .before .before .args in
-    let rows = line-rows (s .planes) (s .masking) (search needs) in
-    let long = length-replicate {A = ℕ} 4640 0 in
-    (search needs, (rows-room _ (s .w) 512 _ rows (omega arith) (omega arith), search needs))
+    (search needs, (rows-room _ (s .w) 512 _ (line-rows (s .planes) (s .masking) (search needs)) (omega arith) (length-replicate {A = ℕ} 4608 0), search needs))
 
 slice-aggregate-scan-row-in-2 : tie.Need-slice-aggregate-scan-row-in-2
 slice-aggregate-scan-row-in-2 c = search needs
@@ -23,9 +21,7 @@ slice-aggregate-scan-row-in-2 c = search needs
 scan-row-in-requires-2 : tie.Need-scan-row-in-requires-2
 scan-row-in-requires-2 c κs =
     let s = c .before .before .before .before .before .args in
-    let rows = line-rows (s .planes) (s .masking) (search needs) in
-    let long = length-replicate {A = ℕ} 73760 0 in
-    (search needs, (rows-room _ (s .w) 8192 _ rows (omega arith) (omega arith), search needs))
+    (search needs, (rows-room _ (s .w) 8192 _ (line-rows (s .planes) (s .masking) (search needs)) (omega arith) (length-replicate {A = ℕ} 73728 0), search needs))
 
 same-length : tie.Need-same-length
 same-length c = c .before .before .before .scan-row-in .kept .1 .1 .1 .1 .1 .1 .1 .0

@@ -17,13 +17,17 @@ judge-rows-requires c κs = tt
 enum-known-judged : tie.Need-enum-known-judged
 enum-known-judged c = search needs
 
-spread-table-requires : tie.Need-spread-table-requires
-spread-table-requires c κs = search needs
-
 write-line-requires : tie.Need-write-line-requires
-write-line-requires c κs =
-    let count = c .before .before .before .before .before .before .before .before .row-count .ensures .0 in
-    (search needs, (search needs, ((count-room _ _ _ _ count (search needs), search needs), search (lines, needs))))
+write-line-requires c κs = (
+  search needs,
+  (
+    (
+      count-room _ _ _ _ (c .before .before .before .before .before .before .row-count .ensures .0) (search needs),
+      search needs,
+    ),
+    search (lines, needs),
+  ),
+)
 
 enum-known-judged-2 : tie.Need-enum-known-judged-2
 enum-known-judged-2 c = search needs
@@ -36,7 +40,7 @@ same-length-2 c = search needs
 
 returns : tie.Need-returns
 returns c =
-    let a = c .before .before .before .before .before .before .before .before .before .before in
+    let a = c .before .before .before .before .before .before .before .before in
     let s = a .before .before .before .before .before .before .before .before .args in
     line-read _ _ _ (s .planes) _ _ _ (a .before .before .before .before .row-length .ensures .0) _ (a .before .before .judge-rows .ensures) _ (a .before .before .before .row-count .ensures .0) (s .row .now) _ _ _ (a .judged .given .1) (c .before .before .before .before .write-line .ensures)
 
@@ -54,7 +58,6 @@ scan-row-in-spec =
     row-count-requires
     judge-rows-requires
     enum-known-judged
-    spread-table-requires
     write-line-requires
     enum-known-judged-2
     same-length

@@ -1,10 +1,10 @@
--- `write_line` meets its contract: the rows stand in the BODY or in the buffer, and the pixels are gathered from those of the planes.
+-- `write_line_by` meets its contract: the rows stand in the BODY or in the buffer, and the pixels are gathered from those of the planes.
 use native.Mathlib.Omega.{arith}
 use borrow.Author.Needs.{needs}
 use Rattle.ilbm_plane_rows.proofs.Lines.{lines, planes-fit}
 use Rattle.ilbm_plane_rows.proofs.Plain.{plain}
-use Rattle.ilbm_plane_rows.proofs.write_line.Statement.{statement}
-use Rattle.ilbm_plane_rows.proofs.write_line.Tie as tie
+use Rattle.ilbm_plane_rows.proofs.write_line_by.Statement.{statement}
+use Rattle.ilbm_plane_rows.proofs.write_line_by.Tie as tie
 
 row-length-requires : tie.Need-row-length-requires
 row-length-requires c κs = search (lines, plain, needs)
@@ -57,8 +57,8 @@ same-length-3 c = search (lines, plain, needs)
 returns-2 : tie.Need-returns-2
 returns-2 c = search (lines, plain, needs)
 
-pub write-line-spec : {M : Type 1} → statement M
-write-line-spec =
+pub write-line-by-spec : {M : Type 1} → statement M
+write-line-by-spec =
     tie.close
     (tie.spec
     row-length-requires
