@@ -25,7 +25,9 @@ module _ (buffer : List ℕ) (n planes byte : ℕ) (h : planes ≤ 8) where
 
   eight-fits : (k : ℕ) → eightFrom n planes byte k buffer < 2 ^ 64
   unfolding eightFrom
-  eight-fits k = eight-small (λ i. colourBy 1 (8 * byte + i) (rowsIn n (planes - k) k buffer)) (λ i. colour-byte buffer n planes (8 * byte + i) h k)
+  eight-fits k =
+      let colour : ℕ → ℕ = λ i. colourBy 1 (8 * byte + i) (rowsIn n (planes - k) k buffer) in
+      eight-small colour (λ i. colour-byte buffer n planes (8 * byte + i) h k)
 
   module _ (k : ℕ) (l : k < planes) (m : byte < n) where
     one :
@@ -127,19 +129,21 @@ colours-eight x rows =
     rw (x0, x1, x2, x3, x4, x5, x6, x7)
 
 -- one more byte of pixels
-module _ (buffer : List ℕ) (n planes : ℕ) (h : planes ≤ 8) (j v : ℕ) (row row′ : List ℕ) (g : Gathered (rowsIn n planes 0 buffer) (8 * j) row) where
+module _ (buffer : List ℕ) (n planes : ℕ) (h : planes ≤ 8) (j v : ℕ) (row row′ : List ℕ) where
   pub gathered-eight :
+      Gathered (rowsIn n planes 0 buffer) (8 * j) row →
       v ≡ eightFrom n planes j 0 buffer → 8 * j + 8 ≤ length row → row′ ≡ paste row (8 * j) (bytesOf v) 8 →
       Gathered (rowsIn n planes 0 buffer) (8 * (j + 1)) row′
   unfolding eightFrom
-  gathered-eight e l p =
+  gathered-eight g e l p =
+      let rows : List (List ℕ) = rowsIn n planes 0 buffer in
       let f : planes - 0 ≡ planes = omega arith in
       let y : 8 * (j + 1) ≡ 8 * j + 8 = omega arith in
       let z : 0 + 8 * j ≡ 8 * j = omega arith in
-      let b = bytes-eight (λ i. colourBy 1 (8 * j + i) (rowsIn n planes 0 buffer)) (λ i. rw f at (colour-byte buffer n planes (8 * j + i) h 0)) in
+      let b = bytes-eight (λ i. colourBy 1 (8 * j + i) rows) (λ i. rw f at (colour-byte buffer n planes (8 * j + i) h 0)) in
       let t : take (8 * j + 8) row′ ≡ take (8 * j) row ++ bytesOf v =
       rw p (take-paste row (8 * j) (bytesOf v) 8 (omega arith) (omega arith)) in
-      let q : bytesOf v ≡ coloursFrom (8 * j) 8 (rowsIn n planes 0 buffer) = rw (e, f, colours-eight (8 * j) (rowsIn n planes 0 buffer)) b in
+      let q : bytesOf v ≡ coloursFrom (8 * j) 8 rows = rw (e, f, colours-eight (8 * j) rows) b in
       record { is = rw (y, t, g .is, q) (sym (rw z at (colours-append 0 (8 * j) 8 (rowsIn n planes 0 buffer)))) }
 
 -- the place of a byte of pixels

@@ -96,7 +96,8 @@ fn put_eight(row: &mut [u8], x: usize, v: u64)
 fn gather_bytes(table: &[u64; 256], buffer: &[u8], n: usize, planes: usize, row: &mut [u8]) -> usize
     requires { ⌜ (planes ≤ 8) × (planes * n ≤ length (now buffer)) × (length (now row) ≤ n * 8) ⌝ }
     requires { ⌜ IsSpread (now table) ⌝ }
-    ensures { λ r. ⌜ (r ≤ length (now (row .exit))) × (take r (now (row .exit)) ≡ coloursFrom 0 r (rowsIn n planes 0 (now (buffer .entry)))) ⌝ }
+    ensures { λ r. ⌜ (r ≤ length (now (row .exit)))
+        × (take r (now (row .exit)) ≡ coloursFrom 0 r (rowsIn n planes 0 (now (buffer .entry)))) ⌝ }
 {
     let bytes = row.len() / 8;
     let mut j = 0;

@@ -64,7 +64,8 @@ module _ (body : List ℕ) (n : ℕ) where
           Plain body n (suc rows) at (by-test rows at t)
       go ih true e j =
           let l = leb-true n (length body - at) e in
-          plain-next rows at h l (rowsFrom 0 body n rows (at + n)) (ih l (read-later (take n (drop at body)) (rowsFrom 0 body n rows (at + n)) j))
+          let later : Read (List (List ℕ)) = rowsFrom 0 body n rows (at + n) in
+          plain-next rows at h l later (ih l (read-later (take n (drop at body)) later j))
       go ih false e j = absurd j
 
 -- the same in the words of the code
@@ -77,7 +78,9 @@ module _ (body : List ℕ) (n rows at compression : ℕ) (e : compression ≡ 0)
     plain-all : Plain body n rows at (rowsFrom 0 body n rows at)
     plain-all = plain-rows body n rows at h (rw e at i)
 
-    pub plain-read : rowsFrom compression body n rows at ≡ found ((rowsIn n rows 0 (take (length body - at) (drop at body))), (at + rows * n))
+    pub plain-read :
+        rowsFrom compression body n rows at
+        ≡ found ((rowsIn n rows 0 (take (length body - at) (drop at body))), (at + rows * n))
     plain-read = rw (e, rest-whole) (plain-all .is)
 
     pub plain-room : (planes : ℕ) → planes ≤ rows → planes * n ≤ length (take (length body - at) (drop at body))

@@ -42,7 +42,8 @@ rows-last n (suc m) k xs = let e : k + suc m ≡ suc k + m = omega arith in
 -- the part of a buffer that is lent for a row has room for it
 pub part-long : (a n : ℕ) (xs : List ℕ) → a + n ≤ length xs → n ≤ length (take (length xs - a) (drop a xs))
 part-long a n xs h =
-    let e : length (take (length xs - a) (drop a xs)) ≡ length xs - a = length-take-le (length xs - a) (drop a xs) (rw length-drop (omega arith)) in
+    let e : length (take (length xs - a) (drop a xs)) ≡ length xs - a =
+    length-take-le (length xs - a) (drop a xs) (rw length-drop (omega arith)) in
     omega arith
 
 -- a row written over row k of a buffer, and something over what stands after it
@@ -79,7 +80,9 @@ module _ (compression : ℕ) (body : List ℕ) (n rows at : ℕ) where
 
   module _ (k q : ℕ) (buffer : List ℕ) (w : Written compression body n rows at k q buffer) where
     module _ (h : k < rows) where
-      first : thenRead (rowRead (rowOf compression body q n)) (λ bs p. onward bs (rowsFrom compression body n (rows - (k + 1)) p)) ≡ found ((w .left), (w .end))
+      first :
+          thenRead (rowRead (rowOf compression body q n)) (λ bs p. onward bs (rowsFrom compression body n (rows - (k + 1)) p))
+          ≡ found ((w .left), (w .end))
       first = rw (rows-once compression body n rows k q h) at (w .to-come)
 
       pub written-full : IsFull (rowOf compression body q n)

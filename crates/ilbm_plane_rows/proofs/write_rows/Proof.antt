@@ -20,7 +20,8 @@ abbrev μ-loop : tie.MeasureT-loop
 -- row k lies inside the buffer
 room :
     (c : tie.In-loop Inv-loop μ-loop) →
-    c .before .loop .k * c .before .before .before .before .args .n + c .before .before .before .before .args .n ≤ length (c .before .loop .buffer)
+    c .before .loop .k * c .before .before .before .before .args .n + c .before .before .before .before .args .n
+    ≤ length (c .before .loop .buffer)
 room c =
     let a = c .before .before .before .before in
     omega (arith, to-inside (c .before .loop .k) (a .args .rows) (a .args .n) (length (a .args .buffer .now)) (search needs) (search needs))
@@ -44,7 +45,8 @@ unpack-into-requires : tie.Need-unpack-into-requires Inv-loop μ-loop
 unpack-into-requires c κs =
     let b = c .before in
     let n = b .before .before .before .before .args .n in
-    (part-long (b .before .loop .k * n) n (b .before .loop .buffer) (room b), written-full _ _ _ _ _ _ _ _ (b .before .loop .inv .2) (b .loop-test .taken))
+    let l = b .before .loop in
+    (part-long (l .k * n) n (l .buffer) (room b), written-full _ _ _ _ _ _ _ _ (l .inv .2) (b .loop-test .taken))
 
 add-k : tie.Need-add-k Inv-loop μ-loop
 add-k c = search (writing, needs)
@@ -61,10 +63,11 @@ loop-again c =
     let w = c .before .before .unpack-into in
     let new = w .last .1 .1 .1 .1 .0 in
     let kept = w .kept .1 .1 .1 .1 .0 in
+    let inv = b .before .loop .inv .2 in
     let long = part-long from n buffer (room b) in (
       search needs,
       same-len-mid from (length buffer - from) buffer new kept ∙ b .before .loop .inv .1,
-      written-more _ _ _ _ _ _ _ buffer (b .before .loop .inv .2) (b .loop-test .taken) (w .result) new _ (room b) (omega arith) (w .ensures),
+      written-more _ _ _ _ _ _ _ buffer inv (b .loop-test .taken) (w .result) new _ (room b) (omega arith) (w .ensures),
     )
 
 same-length : tie.Need-same-length Inv-loop μ-loop

@@ -36,13 +36,20 @@ returns : tie.Need-returns
 returns c =
     let a = c .before .before .before .before .before in
     let s = a .before .before .before .before .before .before .before .args in
-    frame-read _ _ (s .planes) _ _ (s .h) _ (a .before .before .before .before .row-length .ensures .0) _ (a .before .before .judge-rows .ensures) _ (a .before .before .before .row-count .ensures .0) (s .frame .now) _ _ _ (a .judged .given .1) (c .before .before .write-frame .ensures)
+    let n = a .before .before .before .before .row-length .ensures .0 in
+    let rows = a .before .before .before .row-count .ensures .0 in
+    let judged = a .before .before .judge-rows .ensures in
+    let written = c .before .before .write-frame .ensures in
+    frame-read _ _ (s .planes) _ _ (s .h) _ n _ judged _ rows (s .frame .now) _ _ _ (a .judged .given .1) written
 
 returns-2 : tie.Need-returns-2
 returns-2 c =
     let a = c .before in
     let s = a .before .before .before .before .before .before .before .args in
-    frame-refusal _ _ (s .planes) _ _ (s .h) _ (a .before .before .before .before .row-length .ensures .0) _ (a .before .before .judge-rows .ensures) _ (a .before .before .before .row-count .ensures .0) (s .frame .now) _ _ (a .judged2 .given .1)
+    let n = a .before .before .before .before .row-length .ensures .0 in
+    let rows = a .before .before .before .row-count .ensures .0 in
+    let judged = a .before .before .judge-rows .ensures in
+    frame-refusal _ _ (s .planes) _ _ (s .h) _ n _ judged _ rows (s .frame .now) _ _ (a .judged2 .given .1)
 
 pub scan-frame-spec : {M : Type 1} → statement M
 scan-frame-spec =

@@ -1,4 +1,5 @@
--- `write_lines` meets its contract. The loop's invariant: the first y lines stand in the frame, and those from q on are the others; the measure is their number.
+-- `write_lines` meets its contract. The loop's invariant: the first y lines stand in the frame, and those from q on are the others; the
+-- measure is their number.
 use Prim.Native.Nat.{_+_, _*_, _-_, _≤_}
 use mathlib.Core.Path.{_≡_, _∙_}
 use native.Mathlib.Omega.{arith}
@@ -19,7 +20,8 @@ abbrev μ-loop : tie.MeasureT-loop
 -- line y lies inside the frame
 room :
     (c : tie.In-loop Inv-loop μ-loop) →
-    c .before .loop .y * c .before .before .before .before .before .args .w + c .before .before .before .before .before .args .w ≤ length (c .before .loop .frame)
+    c .before .loop .y * c .before .before .before .before .before .args .w + c .before .before .before .before .before .args .w
+    ≤ length (c .before .loop .frame)
 room c =
     let s = c .before .before .before .before .before in
     omega (arith, line-inside (c .before .loop .y) (s .args .h) (s .args .w) (length (s .args .frame .now)) (search needs) (search needs))
