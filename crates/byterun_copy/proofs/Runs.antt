@@ -70,16 +70,24 @@ pasted-eight row x a b c d e f g h l =
     rw (x1, x2, x3, x4, x5, x6, x7) (sets-eq (a ∷ b ∷ c ∷ d ∷ e ∷ f ∷ g ∷ h ∷ []) row x l)
 
 pub eight-copied :
-    (src : List ℕ) (from : ℕ) (dst : List ℕ) (at : ℕ) → from + 8 ≤ length src → at + 8 ≤ length dst →
-    set (set (set (set (set (set (set (set dst at (getD src from 0)) (at + 1) (getD src (from + 1) 0)) (at + 2) (getD src (from + 2) 0)) (at + 3) (getD src (from + 3) 0))
-    (at + 4) (getD src (from + 4) 0)) (at + 5) (getD src (from + 5) 0)) (at + 6) (getD src (from + 6) 0)) (at + 7) (getD src (from + 7) 0)
-    ≡ paste dst at (drop from src) 8
-eight-copied src from dst at h l =
+    (src : List ℕ) (from : ℕ) (dst : List ℕ) (at : ℕ) (e : List ℕ) → from + 8 ≤ length src →
+    e ≡ paste dst at (getD src from 0 ∷ getD src (from + 1) 0 ∷ getD src (from + 2) 0 ∷ getD src (from + 3) 0
+    ∷ getD src (from + 4) 0 ∷ getD src (from + 5) 0 ∷ getD src (from + 6) 0 ∷ getD src (from + 7) 0 ∷ []) 8 →
+    e ≡ paste dst at (drop from src) 8
+eight-copied src from dst at e h p =
     let xs : List ℕ = drop from src in
     let z : getD xs 0 0 ≡ getD src from 0 = getD-drop from src 0 0 ∙ ap (λ (m : ℕ). getD src m 0) (add-zero from) in
-    let e = pasted-eight dst at (getD xs 0 0) (getD xs 1 0) (getD xs 2 0) (getD xs 3 0) (getD xs 4 0) (getD xs 5 0) (getD xs 6 0) (getD xs 7 0) l in
-    let f = e ∙ ap (λ (q : List ℕ). take at dst ++ q ++ drop (at + 8) dst) (first-eight xs (rw length-drop (omega arith))) in
-    rw (← z, ← getD-drop from src 1 0, ← getD-drop from src 2 0, ← getD-drop from src 3 0, ← getD-drop from src 4 0, ← getD-drop from src 5 0, ← getD-drop from src 6 0, ← getD-drop from src 7 0) f
+    let f = ap (λ (q : List ℕ). take at dst ++ q ++ drop (at + 8) dst) (first-eight xs (rw length-drop (omega arith))) in
+    p ∙ rw (
+      ← z,
+      ← getD-drop from src 1 0,
+      ← getD-drop from src 2 0,
+      ← getD-drop from src 3 0,
+      ← getD-drop from src 4 0,
+      ← getD-drop from src 5 0,
+      ← getD-drop from src 6 0,
+      ← getD-drop from src 7 0,
+    ) f
 
 pub rest-copied :
     (src : List ℕ) (from count : ℕ) (d₀ d e : List ℕ) (at k : ℕ) → from + count ≤ length src → at + count ≤ length d₀ → k ≤ count →

@@ -1,8 +1,24 @@
 // Runs of bytes: copied from one slice into another, or one byte repeated.
 ghost use mathlib.Core.Path.{_≡_};
+ghost use mathlib.Core.List.{[], _∷_};
 ghost use Prim.Native.Nat.{_+_, _≤_};
 ghost use lib.ListN.{length, drop, replicate};
 ghost use lib.Seq.{paste};
+
+// Writes eight bytes into dst, from `at` on.
+pub fn put_eight(dst: &mut [u8], at: usize, a: u8, b: u8, c: u8, d: u8, e: u8, f: u8, g: u8, h: u8)
+    requires { ⌜ at + 8 ≤ length (now dst) ⌝ }
+    ensures { λ _. ⌜ now (dst .exit) ≡ paste (now (dst .entry)) at (a ∷ b ∷ c ∷ d ∷ e ∷ f ∷ g ∷ h ∷ []) 8 ⌝ }
+{
+    dst[at] = a;
+    dst[at + 1] = b;
+    dst[at + 2] = c;
+    dst[at + 3] = d;
+    dst[at + 4] = e;
+    dst[at + 5] = f;
+    dst[at + 6] = g;
+    dst[at + 7] = h;
+}
 
 // Copies eight bytes of src, from `from` on, into dst, from `at` on.
 pub fn copy_eight(src: &[u8], from: usize, dst: &mut [u8], at: usize)
@@ -18,14 +34,7 @@ pub fn copy_eight(src: &[u8], from: usize, dst: &mut [u8], at: usize)
     let f = src[from + 5];
     let g = src[from + 6];
     let h = src[from + 7];
-    dst[at] = a;
-    dst[at + 1] = b;
-    dst[at + 2] = c;
-    dst[at + 3] = d;
-    dst[at + 4] = e;
-    dst[at + 5] = f;
-    dst[at + 6] = g;
-    dst[at + 7] = h;
+    put_eight(dst, at, a, b, c, d, e, f, g, h);
 }
 
 // Copies the bytes of a run by eights, and tells how many it has copied.

@@ -2,6 +2,7 @@
 use byterun_copy::copy_eight;
 use byterun_copy::copy_run;
 use byterun_copy::fill_run;
+use byterun_copy::put_eight;
 ghost use mathlib.Core.Path.{_≡_};
 ghost use mathlib.Core.List.{_++_};
 ghost use Prim.Native.Nat.{_+_, _≤_};
@@ -64,14 +65,7 @@ fn fill_eight(dst: &mut [u8], at: usize, b: u8)
     requires { ⌜ at + 8 ≤ length (now dst) ⌝ }
     ensures { λ _. ⌜ now (dst .exit) ≡ paste (now (dst .entry)) at (replicate 8 b) 8 ⌝ }
 {
-    dst[at] = b;
-    dst[at + 1] = b;
-    dst[at + 2] = b;
-    dst[at + 3] = b;
-    dst[at + 4] = b;
-    dst[at + 5] = b;
-    dst[at + 6] = b;
-    dst[at + 7] = b;
+    put_eight(dst, at, b, b, b, b, b, b, b, b);
 }
 
 // Writes sixteen bytes b into dst, from `at` on.

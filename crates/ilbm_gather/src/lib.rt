@@ -1,5 +1,6 @@
 // The colour numbers of a row of pixels, gathered from its plane rows by the table of spread bytes: the eight pixels of a byte at a time,
 // and the last of them one by one.
+use byterun_copy::put_eight;
 ghost use mathlib.Core.Path.{_≡_};
 ghost use Prim.Native.Nat.{_+_, _*_, _/_, _≤_, _<_};
 ghost use lib.ListN.{length, take};
@@ -70,7 +71,7 @@ fn eight_at(table: &[u64; 256], buffer: &[u8], n: usize, planes: usize, byte: us
 }
 
 // Writes the eight bytes of a word, the lowest first.
-fn put_eight(row: &mut [u8], x: usize, v: u64)
+fn put_word(row: &mut [u8], x: usize, v: u64)
     requires { ⌜ x + 8 ≤ length (now row) ⌝ }
     ensures { λ _. ⌜ now (row .exit) ≡ paste (now (row .entry)) x (bytesOf v) 8 ⌝ }
 {
@@ -82,14 +83,7 @@ fn put_eight(row: &mut [u8], x: usize, v: u64)
     let f = (v / 0x10000000000 % 256) as u8;
     let g = (v / 0x1000000000000 % 256) as u8;
     let h = (v / 0x100000000000000) as u8;
-    row[x] = a;
-    row[x + 1] = b;
-    row[x + 2] = c;
-    row[x + 3] = d;
-    row[x + 4] = e;
-    row[x + 5] = f;
-    row[x + 6] = g;
-    row[x + 7] = h;
+    put_eight(row, x, a, b, c, d, e, f, g, h);
 }
 
 // The colour numbers of a row of pixels, byte by byte; the last byte may have fewer than eight of them. How many are written.
@@ -102,7 +96,7 @@ fn gather_bytes(table: &[u64; 256], buffer: &[u8], n: usize, planes: usize, row:
     let bytes = row.len() / 8;
     let mut j = 0;
     while j < bytes {
-        put_eight(row, 8 * j, eight_at(table, buffer, n, planes, j));
+        put_word(row, 8 * j, eight_at(table, buffer, n, planes, j));
         j = j + 1;
     }
     8 * j

@@ -20,14 +20,14 @@ abbrev μ-loop : tie.MeasureT-loop
 loop-holds : tie.Need-loop-holds Inv-loop μ-loop
 loop-holds c = search (gathering, eights, needs)
 
-mul-put-eight : tie.Need-mul-put-eight Inv-loop μ-loop
-mul-put-eight c = search (gathering, eights, needs)
+mul-put-word : tie.Need-mul-put-word Inv-loop μ-loop
+mul-put-word c = search (gathering, eights, needs)
 
 eight-at-requires : tie.Need-eight-at-requires Inv-loop μ-loop
 eight-at-requires c κs = search (gathering, eights, needs)
 
-put-eight-requires : tie.Need-put-eight-requires Inv-loop μ-loop
-put-eight-requires c κs = search (gathering, eights, needs)
+put-word-requires : tie.Need-put-word-requires Inv-loop μ-loop
+put-word-requires c κs = search (gathering, eights, needs)
 
 add-j : tie.Need-add-j Inv-loop μ-loop
 add-j c = search (gathering, eights, needs)
@@ -39,7 +39,7 @@ loop-again : tie.Need-loop-again Inv-loop μ-loop
 loop-again c =
     let e = c .before .before .before in
     let g = e .before .before .before .loop .inv .2 in
-    let p = c .before .before .put-eight .ensures in
+    let p = c .before .before .put-word .ensures in
     (search needs, search needs, gathered-eight _ _ _ (search needs) _ _ _ _ g (e .eight-at .ensures) (search (eights, needs)) p)
 
 mul-result : tie.Need-mul-result Inv-loop μ-loop
@@ -58,9 +58,9 @@ gather-bytes-spec =
     Inv-loop
     μ-loop
     loop-holds
-    mul-put-eight
+    mul-put-word
     eight-at-requires
-    put-eight-requires
+    put-word-requires
     add-j
     loop-less
     loop-again

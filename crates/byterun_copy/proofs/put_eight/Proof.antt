@@ -1,10 +1,10 @@
 -- Eight stores are one paste.
 use native.Mathlib.Omega.{arith}
 use lib.ListN.{length-set}
 use Rattle.byterun_copy.proofs.Runs.{pasted-eight}
 use borrow.Author.Needs.{needs}
-use Rattle.byterun_overshoot.proofs.fill_eight.Statement.{statement}
-use Rattle.byterun_overshoot.proofs.fill_eight.Tie as tie
+use Rattle.byterun_copy.proofs.put_eight.Statement.{statement}
+use Rattle.byterun_copy.proofs.put_eight.Tie as tie
 
 slice-write-dst : tie.Need-slice-write-dst
 slice-write-dst c = search needs
@@ -57,8 +57,8 @@ same-length c = search needs
 returns : tie.Need-returns
 returns c = search (pasted-eight, needs)
 
-pub fill-eight-spec : {M : Type 1} → statement M
-fill-eight-spec =
+pub put-eight-spec : {M : Type 1} → statement M
+put-eight-spec =
     tie.close
     (tie.spec
     slice-write-dst
