@@ -1,15 +1,14 @@
 -- What is told of a picture's palette, once the case of the view is known.
-use Prim.Native.Nat.{ℕ, _+_}
-use mathlib.Core.Path.{_≡_, refl, sym, _∙_}
+use Prim.Native.Nat.{ℕ}
+use mathlib.Core.Path.{_≡_, _∙_}
 use mathlib.Core.List.{List, []}
 use mathlib.Core.Option.{some}
-use lib.ListN.{length}
 use lib.Seq.{slice}
 use Rattle.iff_grammar.specs.laws.Words.{slice-take}
 use Rattle.ilbm_spec.specs.declared.BitmapHeader.{BitmapHeader}
 use Rattle.ilbm_spec.specs.Contents.{Located, Property, own, shared, absent}
 use Rattle.ilbm_spec.specs.Pictures.{Viewed, viewOf, paletteFrom}
-use Rattle.ilbm_spec.specs.Palette.{Extent, extentOf, extentFrom, answerIn, paletteAnswer}
+use Rattle.ilbm_spec.specs.Palette.{answerIn, paletteAnswer}
 use Rattle.ilbm_content.proofs.Laws.{origin-is}
 use Rattle.ilbm_content.specs.declared.Part.{Part}
 use Rattle.ilbm_content.specs.declared.Part.the-variants.{Nothing, Between}
@@ -19,9 +18,11 @@ use Rattle.ilbm_content.specs.Held.{Shows, HeldIs}
 use Rattle.ilbm_find.specs.declared.View.{View}
 use Rattle.ilbm_find.specs.declared.View.the-variants.{Seen, Refused as View-refused}
 use Rattle.ilbm_find.specs.Seen.{ViewIs}
-use Rattle.export_property_numbers.specs.Properties.{originNumber, sharedPlace}
+use Rattle.ilbm_numbers.specs.Parts.{fromOf, toOf}
+use Rattle.ilbm_numbers.proofs.Laws.{held-extent}
+use Rattle.ilbm_spec.specs.Table.{originNumber, sharedPlace}
 use Rattle.export_palette.specs.declared.PaletteParts.{PaletteParts}
-use Rattle.export_palette.specs.Palette.{paletteNumbers, paletteCall, fromOf, toOf, paletteParts}
+use Rattle.export_palette.specs.Palette.{paletteNumbers, paletteCall, paletteParts}
 
 -- the parts of a view
 module _ (v : View) (c : Contents) (h : BitmapHeader) (b : v ≡ Seen c h) (k m f t : ℕ) where
@@ -37,17 +38,7 @@ pub parts-refused :
 unfolding paletteParts
 parts-refused v k m b = rw b
 
--- the part of a property holds its data, from the place that it begins at
-part-extent : (s : List ℕ) (p : Part) (x : Located) → Shows s p (some x) → (fromOf p ≡ extentOf x .from) × (toOf p ≡ extentOf x .to)
-part-extent s Nothing x w = absurd w
-part-extent s (Between a b) x w = (w .3, sym (w .1) ∙ rw (w .3))
-
-held-extent : (s : List ℕ) (h : Held) (q : Property) → HeldIs s h q → (fromOf (h .part) ≡ extentFrom q .from) ×
-    (toOf (h .part) ≡ extentFrom q .to)
-held-extent s h (own x) k = part-extent s (h .part) x (k .1)
-held-extent s h (shared p x) k = part-extent s (h .part) x (k .1)
-held-extent s h absent k = rw (k .1) (refl, refl)
-
+-- the part of a property holds its data
 part-holds : (s : List ℕ) (p : Part) (x : Located) → Shows s p (some x) → slice (fromOf p) (toOf p) s ≡ x .content
 part-holds s Nothing x w = absurd w
 part-holds s (Between a b) x w = w .0

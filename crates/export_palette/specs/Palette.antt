@@ -3,11 +3,10 @@ use Prim.Native.Nat.{ℕ}
 use mathlib.Core.List.{List}
 use Rattle.ilbm_spec.specs.Pictures.{Viewed, viewOf, originOf}
 use Rattle.ilbm_spec.specs.Palette.{extentFrom}
-use Rattle.ilbm_content.specs.declared.Part.{Part}
-use Rattle.ilbm_content.specs.declared.Part.the-variants.{Nothing, Between}
+use Rattle.ilbm_spec.specs.Table.{originNumber, sharedPlace}
 use Rattle.ilbm_find.specs.declared.View.{View}
 use Rattle.ilbm_find.specs.declared.View.the-variants.{Seen, Refused as View-refused}
-use Rattle.export_property_numbers.specs.Properties.{originNumber, sharedPlace}
+use Rattle.ilbm_numbers.specs.Parts.{fromOf, toOf}
 use Rattle.iff_tree.specs.Judge.{found, refused}
 use Rattle.export_palette.specs.declared.PaletteParts.{PaletteParts}
 
@@ -29,14 +28,6 @@ abbrev pub paletteCall : List ℕ → ℕ → PaletteParts
 paletteCall s i = paletteNumbers (viewOf s i)
 
 -- the same of the parts that a view gives
-abbrev pub fromOf : Part → ℕ
-fromOf Nothing = 0
-fromOf (Between a b) = a
-
-abbrev pub toOf : Part → ℕ
-toOf Nothing = 0
-toOf (Between a b) = b
-
 unfoldable pub paletteParts : View → PaletteParts
 paletteParts (Seen c b) =
     record {

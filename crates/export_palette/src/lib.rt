@@ -1,33 +1,16 @@
 // The exported call on a picture's palette. It returns 0 or the number of a refusal; whatever else it tells is 0 beside a refusal, but
 // its place.
-use export_property_numbers::origin_number;
-use export_property_numbers::shared_place;
-use ilbm_content::Part;
 use ilbm_find::View;
 use ilbm_find::view_picture;
+use ilbm_numbers::origin_number;
+use ilbm_numbers::part_from;
+use ilbm_numbers::part_to;
+use ilbm_numbers::shared_place;
 ghost use mathlib.Core.Path.{_≡_};
 ghost use mathlib.Core.List.{[]};
 ghost use lib.Seq.{slice};
 ghost use Rattle.ilbm_spec.specs.Palette.{paletteAnswer};
-ghost use Rattle.export_palette.specs.Palette.{fromOf, toOf, paletteParts, paletteCall};
-
-fn part_from(part: Part) -> usize
-    ensures { λ r. ⌜ r ≡ fromOf part ⌝ }
-{
-    match part {
-        Part::Nothing => 0,
-        Part::Between(from, _) => from,
-    }
-}
-
-fn part_to(part: Part) -> usize
-    ensures { λ r. ⌜ r ≡ toOf part ⌝ }
-{
-    match part {
-        Part::Nothing => 0,
-        Part::Between(_, to) => to,
-    }
-}
+ghost use Rattle.export_palette.specs.Palette.{paletteParts, paletteCall};
 
 // What is told of the CMAP that counts: its origin, and its part of the file.
 pub struct PaletteParts {

@@ -1,8 +1,6 @@
 -- The numbers told of a picture's properties; "any other number told beside it is 0".
-use Prim.Native.Nat.{ℕ}
 use lib.IntN.{pos}
-use Rattle.ilbm_spec.specs.declared.Origin.{Origin}
-use Rattle.ilbm_spec.specs.declared.Origin.the-variants.{Own, Shared, Absent}
+use Rattle.ilbm_spec.specs.Table.{originNumber, sharedPlace}
 use Rattle.ilbm_spec.specs.declared.BitmapHeader.{BitmapHeader}
 use Rattle.ilbm_spec.specs.declared.PictureAnswer.{PictureAnswer}
 use Rattle.ilbm_spec.specs.declared.PictureAnswer.the-variants.{Shown, Refused}
@@ -11,17 +9,6 @@ use Rattle.export_property_numbers.specs.declared.GrabNumbers.{GrabNumbe
 use Rattle.export_property_numbers.specs.declared.DestinationNumbers.{DestinationNumbers}
 use Rattle.export_property_numbers.specs.declared.SpriteNumbers.{SpriteNumbers}
 use Rattle.export_property_numbers.specs.declared.ViewModeNumbers.{ViewModeNumbers}
-
--- "Each property is told with its origin: own, shared with the place of the PROP, or absent": 1, 2 or 0, and the place, 0 unless shared
-abbrev pub originNumber : Origin → ℕ
-originNumber Own = 1
-originNumber (Shared p) = 2
-originNumber Absent = 0
-
-abbrev pub sharedPlace : Origin → ℕ
-sharedPlace Own = 0
-sharedPlace (Shared p) = p
-sharedPlace Absent = 0
 
 -- the fields beside a refusal
 abbrev pub noHeader : BitmapHeader

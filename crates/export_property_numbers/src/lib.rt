@@ -1,31 +1,12 @@
 // Each answer on a picture's properties as the numbers that the exported calls tell of it.
+use ilbm_numbers::origin_number;
+use ilbm_numbers::shared_place;
 use ilbm_spec::BitmapHeader;
 use ilbm_spec::Destination;
 use ilbm_spec::HotSpot;
-use ilbm_spec::Origin;
 use ilbm_spec::PictureAnswer;
 ghost use mathlib.Core.Path.{_≡_};
-ghost use Rattle.export_property_numbers.specs.Properties.{originNumber, sharedPlace, headerNumbers, grabNumbers, destinationNumbers, spriteNumbers, viewModeNumbers};
-
-pub fn origin_number(o: Origin) -> usize
-    ensures { λ r. ⌜ r ≡ originNumber o ⌝ }
-{
-    match o {
-        Origin::Own => 1,
-        Origin::Shared(_) => 2,
-        Origin::Absent => 0,
-    }
-}
-
-pub fn shared_place(o: Origin) -> usize
-    ensures { λ r. ⌜ r ≡ sharedPlace o ⌝ }
-{
-    match o {
-        Origin::Own => 0,
-        Origin::Shared(p) => p,
-        Origin::Absent => 0,
-    }
-}
+ghost use Rattle.export_property_numbers.specs.Properties.{headerNumbers, grabNumbers, destinationNumbers, spriteNumbers, viewModeNumbers};
 
 // What is told of the BMHD that counts.
 pub struct HeaderNumbers {

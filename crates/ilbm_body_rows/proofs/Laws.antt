@@ -17,10 +17,10 @@ use Rattle.ilbm_spec.specs.declared.FrameAnswer.the-variants.{Leftover, Refused
 use Rattle.ilbm_spec.specs.Rows.{rowsInLine, Read, lineBy, linesBy, leftover, bodyLine, bodyFrame, lineAnswer, frameAnswer, bytesAfter}
 
 -- the answer and the lent bytes afterwards are those of a reading
-abbrev LineAnswered : Read (List ℕ) → List ℕ → LineAnswer → List ℕ → Type 0
+abbrev pub LineAnswered : Read (List ℕ) → List ℕ → LineAnswer → List ℕ → Type 0
 LineAnswered v old r new = (r ≡ lineAnswer v) × (new ≡ bytesAfter v old)
 
-abbrev FrameAnswered : Read (List ℕ) → List ℕ → FrameAnswer → List ℕ → Type 0
+abbrev pub FrameAnswered : Read (List ℕ) → List ℕ → FrameAnswer → List ℕ → Type 0
 FrameAnswered v old r new = (r ≡ frameAnswer v) × (new ≡ bytesAfter v old)
 
 module _ (body : List ℕ) (w planes masking compression start : ℕ) (old : List ℕ) where

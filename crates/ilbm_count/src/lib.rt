@@ -44,7 +44,7 @@ fn next_chunk(s: &[u8], p: usize, end: usize) -> usize
     p + 8 + (z + 1) / 2 * 2
 }
 
-fn count_sound(s: &[u8], end: usize) -> usize
+pub fn count_sound(s: &[u8], end: usize) -> usize
     requires { ⌜ Sound (now s) end ⌝ }
     ensures { λ r. ⌜ Pictures r ≡ countOf (now (s .entry)) ⌝ }
 {

@@ -1,4 +1,4 @@
-// The fields in the data of a picture's properties.
+// The fields in the data of a picture's properties, and the refusals of a header by its fields.
 use iff_chunk::size_at;
 use ilbm_spec::BitmapHeader;
 use ilbm_spec::Destination;
@@ -8,7 +8,7 @@ ghost use mathlib.Core.List.{[]};
 ghost use Prim.Native.Nat.{_+_, _*_, _≤_};
 ghost use lib.ListN.{length};
 ghost use Rattle.iff_chunk.specs.Chunks.{word};
-ghost use Rattle.ilbm_spec.specs.Pictures.{u16, signed, headerIn, hotSpotIn, destinationIn};
+ghost use Rattle.ilbm_spec.specs.Pictures.{u16, signed, headerIn, hotSpotIn, destinationIn, emptyFields, fieldsRefusal};
 
 fn pair(a: u8, b: u8) -> u16
     ensures { λ r. ⌜ r ≡ a * 256 + b ⌝ }
@@ -115,4 +115,36 @@ pub fn dest_fields(d: &[u8]) -> Destination
         plane_on_off: word_at(d, 4),
         plane_mask: word_at(d, 6),
     }
+}
+
+// w, h or nPlanes 0.
+pub fn empty_fields(w: u16, h: u16, planes: u8) -> bool
+    ensures { λ r. ⌜ r ≡ emptyFields w h planes ⌝ }
+{
+    if w == 0 {
+        return true;
+    }
+    if h == 0 {
+        return true;
+    }
+    planes == 0
+}
+
+// 41, 42, 43, and 24 if the picture is empty: fields that can't be shown.
+pub fn fields_refusal(planes: u8, masking: u8, compression: u8, empty: bool) -> usize
+    ensures { λ r. ⌜ r ≡ fieldsRefusal planes masking compression empty ⌝ }
+{
+    if 8 < planes {
+        return 41;
+    }
+    if 3 < masking {
+        return 42;
+    }
+    if 1 < compression {
+        return 43;
+    }
+    if empty {
+        return 24;
+    }
+    0
 }

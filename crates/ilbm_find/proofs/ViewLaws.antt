@@ -61,7 +61,7 @@ module _ (s : List ℕ) (form : ℕ) (p : Scope) (z : ℕ) (i : z ≡ word s (fo
               rw (← e, ne-eqb _ _ j)
 
 -- the picture of number i
-sound-holds : (s : List ℕ) (e : ℕ) (f : Sound s e) → Holds s 0 e (before (f .chunk) none) (drop e s)
+pub sound-holds : (s : List ℕ) (e : ℕ) (f : Sound s e) → Holds s 0 e (before (f .chunk) none) (drop e s)
 sound-holds s e f =
     let w = f .start in
     record { rest = w .here; regular = w .regular; ends = w .ends; inside = w .room; short = w .short }

@@ -21,7 +21,7 @@ pub enum View {
 }
 
 // The picture in the FORM at a place.
-fn view_form(s: &[u8], form: usize, scope: Scope) -> View
+pub fn view_form(s: &[u8], form: usize, scope: Scope) -> View
     requires { ⌜ FormIn (now s) form scope ⌝ }
     ensures { λ r. ⌜ FormView (now (s .entry)) form scope r ⌝ }
 {

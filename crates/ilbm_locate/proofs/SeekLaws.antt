@@ -93,17 +93,18 @@ module _ (s : List ℕ) (q e : ℕ) (prop : Scope) where
     pub no-picture-here : (k : ℕ) (r : Spot) → b ≡ false → Enters s q e prop k r → Visits s q e prop k r
     no-picture-here k r z x = spotted-inside b k r a (group-is s q e n t isPicture b a i j y) z x
 
+  -- leaves and PROPs hold no pictures
+  pub none-here : (F : Chunks) (R : List ℕ) (scope : Shares) → Holds s q e F R → isSection (kindOf (word s q)) ≡ false →
+      contentsHere q scope F ≡ []
+  none-here none R scope h g = refl
+  none-here (leaf n d pd F) R scope h g = refl
+  none-here (group n t G F) R scope h g =
+      let y : isSection (kindOf n) ≡ false = rw (name-here s q e n t G F R h) at g in
+      let p = prop-name n (h .regular .0) y in
+      rw (p, flat-contents G (h .regular .5 p) (q + 12) scope)
+
   pub none-visited : (k : ℕ) → isSection (kindOf (word s q)) ≡ false → Visits s q e prop k (Left k)
-  none-visited k g = record { at = go }
-    where
-      go : (F : Chunks) (R : List ℕ) (scope : Shares) → Holds s q e F R → ScopeIs s prop scope →
-          Spotted s k (contentsHere q scope F) (Left k)
-      go none R scope h c Y = refl
-      go (leaf n d pd F) R scope h c Y = refl
-      go (group n t G F) R scope h c Y =
-          let y : isSection (kindOf n) ≡ false = rw (name-here s q e n t G F R h) at g in
-          let p = prop-name n (h .regular .0) y in
-          rw (p, flat-contents G (h .regular .5 p) (q + 12) scope)
+  none-visited k g = record { at = λ F R scope h c. rw (none-here F R scope h g) (λ Y. refl) }
 
   -- what is inside a group
   module _ (scope' : Scope) (x : GivesInside s q e prop scope') where
@@ -129,7 +130,7 @@ pub record Passing (s : List ℕ) (p e : ℕ) (prop : Scope) (k q left : ℕ) : 
 
 -- the pictures in a row are those in its first chunk and those after it
 module _ (s : List ℕ) (q e : ℕ) (m : Sibling) (t : Tells s q e m) where
-  split-at :
+  pub split-at :
       (scope : Shares) (K : Chunks) (R : List ℕ) → Holds s q e K R →
       (K' : Chunks) × Holds s (m .next) e K' R × (contentsFrom q scope K ≡ contentsHere q scope K ++ contentsFrom (m .next) scope K')
   unfolding contentsFrom

@@ -114,7 +114,7 @@ fn list_scope(s: &[u8], p: usize, e: usize, scope: Scope) -> Scope
 }
 
 // What is shared among the members of the group at q.
-fn inner_scope(s: &[u8], q: usize, e: usize, scope: Scope) -> Scope
+pub fn inner_scope(s: &[u8], q: usize, e: usize, scope: Scope) -> Scope
     requires { ⌜ GroupAt (now s) q e ⌝ }
     ensures { λ r. ⌜ GivesInside (now (s .entry)) q e scope r ⌝ }
 {

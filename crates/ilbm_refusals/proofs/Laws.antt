@@ -1,17 +1,15 @@
--- 23 and the refusals of the header: 23 told from the parts of the file that hold the properties.
-use Prim.Native.Nat.{ℕ, _+_, _-_, _%_, _≤_, _<_}
+-- 23, told from the parts of the file that hold the properties; and the refusals of the header, by those of its fields.
+use Prim.Native.Nat.{ℕ, _+_, _-_, _%_, _≤_}
 use mathlib.Core.Path.{_≡_, refl, sym, _∙_}
-use mathlib.Core.Bool.{Bool, true, false, not}
+use mathlib.Core.Bool.{Bool, true, false, not, _&&_}
 use mathlib.Core.List.{List}
 use mathlib.Core.Option.{some}
 use lib.Dec.{eqb}
 use lib.ListN.{length}
-use borrow.Author.Tests.{lt-ltb, le-ltb, eq-eqb, ne-eqb}
 use native.Mathlib.Omega.{arith}
-use Rattle.iff_name.specs.Name.{both}
 use Rattle.ilbm_spec.specs.declared.BitmapHeader.{BitmapHeader}
 use Rattle.ilbm_spec.specs.Contents.{Property, own, shared, absent, Content}
-use Rattle.ilbm_spec.specs.Pictures.{dataOf, counts, wrongSize, emptyPicture, headerRefusal}
+use Rattle.ilbm_spec.specs.Pictures.{dataOf, counts, wrongSize, emptyFields, fieldsRefusal, headerRefusal}
 use Rattle.ilbm_content.specs.declared.Part.the-variants.{Nothing, Between}
 use Rattle.ilbm_content.specs.Held.{Shows}
 use Rattle.ilbm_content.specs.declared.Held.{Held}
@@ -158,43 +156,10 @@ module _ (s : List ℕ) (c : Contents) (b : Bool) (v : SizeIs (c .bmhd) 20 b) wh
                 ← v6 .at s (x .camg) (k .camg),
               )
 
--- w, h or nPlanes 0, beside a BODY
-module _ (b : BitmapHeader) (body : Bool) where
-  pub no-body : body ≡ false → false ≡ both body (emptyPicture b)
-  no-body i = simp i
-
-  module _ (i : body ≡ true) where
-    pub no-width : b .w ≡ 0 → true ≡ both body (emptyPicture b)
-    no-width z = simp (i, eq-eqb _ _ z)
-
-    module _ (z : b .w ≡ 0 → ⊥) where
-      pub no-height : b .h ≡ 0 → true ≡ both body (emptyPicture b)
-      no-height y = simp (i, ne-eqb _ _ z, eq-eqb _ _ y)
-
-      pub no-planes : (b .h ≡ 0 → ⊥) → eqb (b .planes) 0 ≡ both body (emptyPicture b)
-      no-planes y = simp (i, ne-eqb _ _ z, ne-eqb _ _ y)
-
--- 41, 42, 43, 24
-module _ (b : BitmapHeader) (body : Bool) where
-  pub many-planes : 8 < b .planes → 41 ≡ headerRefusal b body
-  unfolding headerRefusal
-  many-planes h = simp (lt-ltb _ _ h)
-
-  module _ (h : b .planes ≤ 8) where
-    pub odd-masking : 3 < b .masking → 42 ≡ headerRefusal b body
-    unfolding headerRefusal
-    odd-masking m = simp (le-ltb _ _ h, lt-ltb _ _ m)
-
-    module _ (m : b .masking ≤ 3) where
-      pub odd-compression : 1 < b .compression → 43 ≡ headerRefusal b body
-      unfolding headerRefusal
-      odd-compression k = simp (le-ltb _ _ h, le-ltb _ _ m, lt-ltb _ _ k)
-
-      module _ (k : b .compression ≤ 1) (e : Bool) (i : e ≡ both body (emptyPicture b)) where
-        pub empty : e ≡ true → 24 ≡ headerRefusal b body
-        unfolding headerRefusal
-        empty j = rw (le-ltb _ _ h, le-ltb _ _ m, le-ltb _ _ k, ← i, j)
-
-        pub shown : e ≡ false → 0 ≡ headerRefusal b body
-        unfolding headerRefusal
-        shown j = rw (le-ltb _ _ h, le-ltb _ _ m, le-ltb _ _ k, ← i, j)
+-- w, h and nPlanes may be 0 without a BODY
+pub header-fields :
+    (b : BitmapHeader) (body e : Bool) (r : ℕ) → e ≡ emptyFields (b .w) (b .h) (b .planes) →
+    r ≡ fieldsRefusal (b .planes) (b .masking) (b .compression) (body && e) → r ≡ headerRefusal b body
+unfolding headerRefusal
+header-fields b true e r i j = rw (← i) j
+header-fields b false e r i j = j

@@ -3,11 +3,12 @@ use ilbm_content::Contents;
 use ilbm_content::Held;
 use ilbm_content::Part;
 use ilbm_fields::bitmap_header;
+use ilbm_fields::empty_fields;
+use ilbm_fields::fields_refusal;
 use ilbm_fields::no_header;
 use ilbm_spec::BitmapHeader;
 ghost use mathlib.Core.Path.{_≡_};
-ghost use Rattle.iff_name.specs.Name.{both};
-ghost use Rattle.ilbm_spec.specs.Pictures.{emptyPicture, headerRefusal};
+ghost use Rattle.ilbm_spec.specs.Pictures.{headerRefusal};
 ghost use Rattle.ilbm_refusals.specs.Refusals.{Sized, Full, SizeIs, TriplesIs, SizesAre, JudgementIs};
 ghost use Rattle.ilbm_content.specs.declared.Part.the-variants.{Between};
 
@@ -68,40 +69,12 @@ fn wrong_size(s: &[u8], c: Contents) -> bool
     size_not(camg, 4)
 }
 
-// A BODY beside w, h or nPlanes 0.
-fn empty_with_body(b: BitmapHeader, body: bool) -> bool
-    ensures { λ r. ⌜ r ≡ both body (emptyPicture b) ⌝ }
-{
-    if body {
-        if b.w == 0 {
-            return true;
-        }
-        if b.h == 0 {
-            return true;
-        }
-        return b.planes == 0;
-    }
-    false
-}
-
-// 41, 42, 43, 24: a header that can't be shown.
+// 41, 42, 43, 24: a header that can't be shown; an empty picture can, without a BODY.
 fn header_refusal(b: BitmapHeader, body: bool) -> usize
     ensures { λ r. ⌜ r ≡ headerRefusal b body ⌝ }
 {
-    let empty = empty_with_body(b, body);
-    if 8 < b.planes {
-        return 41;
-    }
-    if 3 < b.masking {
-        return 42;
-    }
-    if 1 < b.compression {
-        return 43;
-    }
-    if empty {
-        return 24;
-    }
-    0
+    let empty = empty_fields(b.w, b.h, b.planes);
+    fields_refusal(b.planes, b.masking, b.compression, body & empty)
 }
 
 // A refusal before any header is read.

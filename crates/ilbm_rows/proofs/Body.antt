@@ -1,4 +1,5 @@
--- The scan line and the frame of a picture with a BODY are those of its first BODY, by the header that counts.
+-- The scan line and the frame of a picture with a BODY are those of its first BODY, by the header that counts: a picture that is not
+-- refused has fields that pass.
 use Prim.Native.Nat.{ℕ, _+_, _-_, _≤_}
 use mathlib.Core.Path.{_≡_, refl, sym, ap, _∙_}
 use mathlib.Core.List.{List, [], _∷_}
@@ -11,8 +12,8 @@ use Rattle.ilbm_spec.specs.declared.BitmapHeader.{BitmapHeader}
 use Rattle.ilbm_spec.specs.declared.LineAnswer.{LineAnswer}
 use Rattle.ilbm_spec.specs.declared.FrameAnswer.{FrameAnswer}
 use Rattle.ilbm_spec.specs.Contents.{Located, Content}
-use Rattle.ilbm_spec.specs.Rows.{Read, bodyLine, bodyFrame, lineRead, frameRead, lineAnswer, frameAnswer, bytesAfter}
-use Rattle.ilbm_spec.specs.laws.Pictures as Pictures
+use Rattle.ilbm_spec.specs.Rows.{Read, lineInBody, frameInBody, lineRead, frameRead, lineAnswer, frameAnswer, bytesAfter}
+use Rattle.ilbm_spec.specs.laws.Pictures.{line-fields, frame-fields}
 use Rattle.ilbm_members.specs.Gathers.{firstOf}
 use Rattle.ilbm_content.specs.declared.Part.the-variants.{Between}
 use Rattle.ilbm_content.specs.declared.Contents.{Contents}
@@ -36,9 +37,6 @@ first-body s a b (x ∷ xs) w =
     let e : take (b - a) (drop a s) ≡ x .content = sym (slice-take s a (b - a)) ∙ (ap (λ (y : ℕ). slice a y s) j ∙ w .0) in
     record { first = x; others = xs; is = refl; is-data = sym e; order = omega (arith, w .1); inside = w .2 }
 
-pub planes-8 : (s : List ℕ) (c : Contents) (h : BitmapHeader) → Judged s c h → h .planes ≤ 8
-planes-8 s c h (x, k) = rw (k .header) (Pictures.planes-8 x (k .sound))
-
 module _ (s : List ℕ) (c : Contents) (h : BitmapHeader) (a b : ℕ) (i : c .body ≡ Between a b) where
   body-of : (x : Content) → Shown s c h x → FirstBody s a b (x .bodies)
   body-of x k = first-body s a b (x .bodies) (rw i at (k .parts .body))
@@ -52,10 +50,12 @@ module _ (s : List ℕ) (c : Contents) (h : BitmapHeader) (a b : ℕ) (i : c .bo
   -- the scan line
   module _ (start : ℕ) (old : List ℕ) where
     abbrev line : Read (List ℕ)
-    line = bodyLine (take (b - a) (drop a s)) (h .w) (h .planes) (h .masking) (h .compression) start (length old)
+    line = lineInBody (take (b - a) (drop a s)) (h .w) (h .planes) (h .masking) (h .compression) start (length old)
 
     line-at : (x : Content) → Shown s c h x → lineRead (found x) start (length old) ≡ line
-    line-at x k = rw (body-of x k .is, body-of x k .is-data, k .header)
+    line-at x k =
+        let b = body-of x k in
+        rw (b .is, b .is-data, k .header, line-fields x (k .sound) (b .first) (b .others) (b .is))
 
     pub line-done : (r : LineAnswer) (new : List ℕ) → r ≡ lineAnswer line → new ≡ bytesAfter line old → LineDone s c h start old r new
     line-done r new e w = record { answer = λ x k. rw (line-at x k) e; row = λ x k. rw (line-at x k) w }
@@ -63,10 +63,12 @@ module _ (s : List ℕ) (c : Contents) (h : BitmapHeader) (a b : ℕ) (i : c .bo
   -- the frame
   module _ (old : List ℕ) where
     abbrev frame : Read (List ℕ)
-    frame = bodyFrame (take (b - a) (drop a s)) (h .w) (h .h) (h .planes) (h .masking) (h .compression) (length old)
+    frame = frameInBody (take (b - a) (drop a s)) (h .w) (h .h) (h .planes) (h .masking) (h .compression) (length old)
 
     frame-at : (x : Content) → Shown s c h x → frameRead (found x) (length old) ≡ frame
-    frame-at x k = rw (body-of x k .is, body-of x k .is-data, k .header)
+    frame-at x k =
+        let b = body-of x k in
+        rw (b .is, b .is-data, k .header, frame-fields x (k .sound) (b .first) (b .others) (b .is))
 
     pub frame-done : (r : FrameAnswer) (new : List ℕ) → r ≡ frameAnswer frame → new ≡ bytesAfter frame old → FrameDone s c h old r new
     frame-done r new e w = record { answer = λ x k. rw (frame-at x k) e; frame = λ x k. rw (frame-at x k) w }

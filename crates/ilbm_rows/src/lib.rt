@@ -1,6 +1,6 @@
 // The scan line and the frame of a picture.
-use ilbm_body_rows::body_frame;
-use ilbm_body_rows::body_line;
+use ilbm_body_rows::frame_in_body;
+use ilbm_body_rows::line_in_body;
 use ilbm_content::Contents;
 use ilbm_content::Part;
 use ilbm_find::View;
@@ -31,7 +31,7 @@ fn picture_line(
             number: 25,
             place: 0,
         },
-        Part::Between(a, b) => body_line(
+        Part::Between(a, b) => line_in_body(
             &s[a..b],
             header.w,
             header.planes,
@@ -66,8 +66,8 @@ fn picture_frame(s: &[u8], c: Contents, header: BitmapHeader, frame: &mut [u8]) 
             number: 25,
             place: 0,
         },
-        Part::Between(a, b) => body_frame(
-            &s[a..b],
+        Part::Between(from, to) => frame_in_body(
+            &s[from..to],
             header.w,
             header.h,
             header.planes,

@@ -4,4 +4,5 @@ pub mod Examples
 pub mod Pictures
 pub mod Palette
 pub mod Rows
+pub mod Table
 pub mod laws

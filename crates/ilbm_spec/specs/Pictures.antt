@@ -87,18 +87,23 @@ wrongSize c =
     (either (sizeNot 2 (c .sprt)) (sizeNot 4 (c .camg))))))
 
 -- "w, h or nPlanes 0"
-abbrev pub emptyPicture : BitmapHeader → Bool
-emptyPicture b = either (eqb (b .w) 0) (either (eqb (b .h) 0) (eqb (b .planes) 0))
+abbrev pub emptyFields : ℕ → ℕ → ℕ → Bool
+emptyFields w h planes = either (eqb w 0) (either (eqb h 0) (eqb planes 0))
 
--- "41 nPlanes over 8; 42 masking over 3; 43 compression over 1"; "24 now means w, h or nPlanes 0 with a BODY"; "checked in the order 41,
--- 42, 43, 24". The number, or 0.
+-- "41 nPlanes over 8; 42 masking over 3; 43 compression over 1"; 24 if the picture is empty; "checked in the order 41, 42, 43, 24". The
+-- number, or 0.
+unfoldable pub fieldsRefusal : ℕ → ℕ → ℕ → Bool → ℕ
+fieldsRefusal planes masking compression empty =
+    pick (ltb 8 planes) 41
+    (pick (ltb 3 masking) 42
+    (pick (ltb 1 compression) 43
+    (pick empty 24
+    0)))
+
+-- "24 now means w, h or nPlanes 0 with a BODY"
 unfoldable pub headerRefusal : BitmapHeader → Bool → ℕ
 headerRefusal b hasBody =
-    pick (ltb 8 (b .planes)) 41
-    (pick (ltb 3 (b .masking)) 42
-    (pick (ltb 1 (b .compression)) 43
-    (pick (both hasBody (emptyPicture b)) 24
-    0)))
+    fieldsRefusal (b .planes) (b .masking) (b .compression) (both hasBody (emptyFields (b .w) (b .h) (b .planes)))
 
 -- 21, 22, 23 and then the header's, "where 24 stood": the number, or 0.
 unfoldable pub pictureRefusal : Content → ℕ

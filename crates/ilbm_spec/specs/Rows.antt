@@ -13,7 +13,7 @@ use Rattle.ilbm_spec.specs.declared.FrameAnswer.{FrameAnswer}
 use Rattle.ilbm_spec.specs.declared.FrameAnswer.the-variants.{Leftover, Refused as Frame-refused}
 use Rattle.iff_tree.specs.Judge.{Found, found, refused}
 use Rattle.ilbm_spec.specs.Contents.{Located}
-use Rattle.ilbm_spec.specs.Pictures.{Viewed, viewOf, dataOf, headerIn}
+use Rattle.ilbm_spec.specs.Pictures.{Viewed, viewOf, dataOf, headerIn, emptyFields, fieldsRefusal}
 
 -- "A plane row is 2 * floor((w+15)/16) bytes."
 abbrev pub rowLength : ℕ → ℕ
@@ -95,6 +95,19 @@ abbrev pub bodyFrame : List ℕ → ℕ → ℕ → ℕ → ℕ → ℕ → ℕ 
 bodyFrame body w h planes masking compression room =
     pick (not (eqb room (w * h))) (refused 28 0)
     (leftover (length body) (linesBy compression w planes (rowsInLine planes masking) body h 0))
+
+-- Rows of a BODY by itself, with the header's fields as numbers: 41, 42, 43 or 24 for these fields, and otherwise what is read.
+abbrev pub onFields : ℕ → Read (List ℕ) → Read (List ℕ)
+onFields refusal rows = pick (eqb refusal 0) rows (refused refusal 0)
+
+-- A scan line of any bytes as a BODY; it is one row of its picture, so of the three that may not be 0 it has w and the planes.
+abbrev pub lineInBody : List ℕ → ℕ → ℕ → ℕ → ℕ → ℕ → ℕ → Read (List ℕ)
+lineInBody body w planes masking compression start room =
+    onFields (fieldsRefusal planes masking compression (emptyFields w 1 planes)) (bodyLine body w planes masking compression start room)
+
+abbrev pub frameInBody : List ℕ → ℕ → ℕ → ℕ → ℕ → ℕ → ℕ → Read (List ℕ)
+frameInBody body w h planes masking compression room =
+    onFields (fieldsRefusal planes masking compression (emptyFields w h planes)) (bodyFrame body w h planes masking compression room)
 
 -- Rows are asked of a picture: 25 for no BODY, and otherwise what `rows` says of its header and its BODY.
 abbrev pub onBody : List Located → (List ℕ → Read (List ℕ)) → Read (List ℕ)

@@ -71,3 +71,9 @@ pub enum FrameAnswer {
     Leftover(usize),
     Refused { number: usize, place: usize },
 }
+
+// How many pictures a table tells, or the number and place of a refusal.
+pub enum TableAnswer {
+    Pictures(usize),
+    Refused { number: usize, place: usize },
+}

@@ -16,7 +16,7 @@ use Rattle.iff_grammar.specs.laws.Names.{both-true}
 use Rattle.iff_name.specs.Codes.{FORM, LIST, PROP, CAT, JJJJ}
 use Rattle.ilbm_spec.specs.Names.{ILBM, BMHD}
 use Rattle.ilbm_spec.specs.Contents.{located, shared, absent, lastNamed, listScope, propertyOf, bodiesFrom, contentsFrom, noPicture}
-use Rattle.ilbm_spec.specs.Pictures.{headerIn, wrongSize, headerRefusal, pictureRefusal, Viewed, pickContent, viewOf}
+use Rattle.ilbm_spec.specs.Pictures.{headerIn, wrongSize, fieldsRefusal, headerRefusal, pictureRefusal, Viewed, pickContent, viewOf}
 use Rattle.theorem_additions.specs.Additions.{here, past, into, Addition, chunk, trailing, propTypes, insert, boundaryPlace, around}
 use Rattle.theorem_additions.specs.Additions.{growAll}
 use Rattle.theorem_additions.specs.Additions.{MayAddAll, fileAfter, movedBy, headersFrom, addedHeaders, renamed, lowest}
@@ -171,13 +171,13 @@ shows form prop bmhd =
 view-before : viewOf file 0 ≡ shows 52 12 24
 unfolding
     readFile chunkAt run headerOf groupHeaderOf word wellFormed versionName typeName typeBytes reservedName kindOf propWithin
-    contentsFrom listScope propertyOf lastNamed bodiesFrom pickContent pictureRefusal wrongSize headerRefusal headerIn bytes
+    contentsFrom listScope propertyOf lastNamed bodiesFrom pickContent pictureRefusal wrongSize headerRefusal fieldsRefusal headerIn bytes
 view-before = refl
 
 view-after : viewOf edited 0 ≡ shows 112 32 54
 unfolding
     readFile chunkAt run headerOf groupHeaderOf word wellFormed versionName typeName typeBytes reservedName kindOf propWithin
-    contentsFrom listScope propertyOf lastNamed bodiesFrom pickContent pictureRefusal wrongSize headerRefusal headerIn bytes
+    contentsFrom listScope propertyOf lastNamed bodiesFrom pickContent pictureRefusal wrongSize headerRefusal fieldsRefusal headerIn bytes
 view-after = refl
 
 -- a name over the FORM in the FORM ILBM, and one over the local chunk in the FORM in the LIST, which stands before it

@@ -8,7 +8,7 @@ use lib.ListN.{length}
 use Rattle.iff_name.specs.Name.{pick, versionName}
 use Rattle.iff_chunk.specs.Chunks.{Chunk}
 use Rattle.iff_tree.specs.declared.Verdict.the-variants.{Refused}
-use Rattle.iff_tree.specs.Judge.{found, readFile, checkOf, refused}
+use Rattle.iff_tree.specs.Judge.{Found, found, readFile, checkOf, refused}
 use Rattle.iff_grammar.specs.Words.{Bytes}
 use Rattle.iff_grammar.specs.Grammar.{member}
 use Rattle.ilbm_spec.specs.declared.Origin.{Origin}
@@ -20,10 +20,13 @@ use Rattle.ilbm_spec.specs.declared.LineAnswer.{LineAnswer}
 use Rattle.ilbm_spec.specs.declared.LineAnswer.the-variants.{Refused as Line-refused}
 use Rattle.ilbm_spec.specs.declared.FrameAnswer.{FrameAnswer}
 use Rattle.ilbm_spec.specs.declared.FrameAnswer.the-variants.{Refused as Frame-refused}
+use Rattle.ilbm_spec.specs.declared.TableAnswer.{TableAnswer}
+use Rattle.ilbm_spec.specs.declared.TableAnswer.the-variants.{Refused as Table-refused}
 use Rattle.ilbm_spec.specs.Contents.{movedContent}
 use Rattle.ilbm_spec.specs.Pictures.{Viewed, viewOf, pictureOf}
 use Rattle.ilbm_spec.specs.Palette.{paletteAnswer, Extent, paletteExtent}
 use Rattle.ilbm_spec.specs.Rows.{lineOf, frameOf, lineAnswer, frameAnswer, bytesAfter}
+use Rattle.ilbm_spec.specs.Table.{PropertyRow, BodyRow, PictureRow, tableOf, tableAnswer, tableAfter}
 use Rattle.theorem_additions.specs.Additions.{Addition, treeAfter, fileAfter, MayAddAll, movedBy, addedHeaders, Renaming, renamed}
 use Rattle.theorem_additions.specs.Additions.{lowest}
 
@@ -58,20 +61,59 @@ abbrev pub movedAnswer : (ℕ → ℕ) → PictureAnswer → PictureAnswer
 movedAnswer f (Shown x) = Shown (movedPicture f x)
 movedAnswer f (Picture-refused k p) = Picture-refused k p
 
--- the palette's extent: its CMAP, whose header stands 8 before, moved; 0 and 0 as before
+-- where the data of a chunk lies, as the palette's extent tells it: the chunk, whose header stands 8 before, moved; 0 and 0 as before
 abbrev pub movedExtent : (ℕ → ℕ) → Extent → Extent
 movedExtent f e = pick (eqb (e .from) 0) e (record { from = f (e .from - 8) + 8; to = f (e .from - 8) + 8 + (e .to - e .from) })
 
--- A call with a lent row or frame: what it tells, and the bytes that it leaves there.
+-- A row of the table of pictures: answer, type, origins and the mark of a BODY as before; moved are the FORM's place, the place of a PROP
+-- where the origin is 2, and with each chunk where its data lies.
+abbrev pub movedPropertyRow : (ℕ → ℕ) → PropertyRow → PropertyRow
+movedPropertyRow f q =
+    let e : Extent = movedExtent f (record { from = q .from; to = q .to }) in
+    record { origin = q .origin; shared = pick (eqb (q .origin) 2) (f (q .shared)) (q .shared); from = e .from; to = e .to }
+
+abbrev pub movedBodyRow : (ℕ → ℕ) → BodyRow → BodyRow
+movedBodyRow f b =
+    let e : Extent = movedExtent f (record { from = b .from; to = b .to }) in record { there = b .there; from = e .from; to = e .to }
+
+abbrev pub movedRow : (ℕ → ℕ) → PictureRow → PictureRow
+movedRow f r =
+    record {
+      answer = r .answer;
+      place = f (r .place);
+      formType = r .formType;
+      bmhd = movedPropertyRow f (r .bmhd);
+      cmap = movedPropertyRow f (r .cmap);
+      grab = movedPropertyRow f (r .grab);
+      dest = movedPropertyRow f (r .dest);
+      sprt = movedPropertyRow f (r .sprt);
+      camg = movedPropertyRow f (r .camg);
+      body = movedBodyRow f (r .body);
+    }
+
+-- each row of a table moved, as many as before; a refusal as before, with its place
+abbrev pub movedRows : (ℕ → ℕ) → List PictureRow → List PictureRow
+movedRows f [] = []
+movedRows f (r ∷ rs) = movedRow f r ∷ movedRows f rs
+
+abbrev pub movedTable : (ℕ → ℕ) → Found (List PictureRow) → Found (List PictureRow)
+movedTable f (found rs) = found (movedRows f rs)
+movedTable f (refused k p) = refused k p
+
+-- A call with a lent row, frame or table: what it tells, and what it leaves there.
 abbrev pub lineCall : List ℕ → ℕ → ℕ → List ℕ → LineAnswer × List ℕ
 lineCall s i start row = (lineAnswer (lineOf s i start (length row)), bytesAfter (lineOf s i start (length row)) row)
 
 abbrev pub frameCall : List ℕ → ℕ → List ℕ → FrameAnswer × List ℕ
 frameCall s i frame = (frameAnswer (frameOf s i (length frame)), bytesAfter (frameOf s i (length frame)) frame)
 
+abbrev pub tableCall : List ℕ → List ℕ → TableAnswer × List ℕ
+tableCall s table = (tableAnswer (tableOf s (length table)), tableAfter (tableOf s (length table)) table)
+
 -- Every call on every picture answers as before. What any call is made from, `viewOf`, is the same but for the places of its chunks; and
 -- so are properties with origins, the palette and where it lies, a scan line from any place and the frame, into any lent row or frame;
--- refusals with their places.
+-- refusals with their places. The table of pictures has as many rows, or is refused, as before, for any room; every place that it tells
+-- moves by the bytes put before it, and nothing else.
 pub record SameAnswers (f g : List ℕ) (move : ℕ → ℕ) : Type 0 where
   pub views : (i : ℕ) → viewOf g i ≡ movedView move (viewOf f i)
   pub pictures : (i : ℕ) → pictureOf g i ≡ movedAnswer move (pictureOf f i)
@@ -79,6 +121,8 @@ pub record SameAnswers (f g : List ℕ) (move : ℕ → ℕ) : Type 0 where
   pub extents : (i : ℕ) → paletteExtent g i ≡ movedExtent move (paletteExtent f i)
   pub lines : (i start : ℕ) (row : List ℕ) → lineCall g i start row ≡ lineCall f i start row
   pub frames : (i : ℕ) (frame : List ℕ) → frameCall g i frame ≡ frameCall f i frame
+  pub tables : (room : ℕ) → tableOf g room ≡ movedTable move (tableOf f room)
+  pub table-answers : (room : ℕ) → tableAnswer (tableOf g room) ≡ tableAnswer (tableOf f room)
 
 -- Every call gives refusal 3 at p, and leaves what was lent.
 pub record AllRefused (g : List ℕ) (p : ℕ) : Type 0 where
@@ -89,6 +133,7 @@ pub record AllRefused (g : List ℕ) (p : ℕ) : Type 0 where
   pub extents : (i : ℕ) → paletteExtent g i ≡ record { from = 0; to = 0 }
   pub lines : (i start : ℕ) (row : List ℕ) → lineCall g i start row ≡ (Line-refused 3 p, row)
   pub frames : (i : ℕ) (frame : List ℕ) → frameCall g i frame ≡ (Frame-refused 3 p, frame)
+  pub tables : (table : List ℕ) → tableCall g table ≡ (Table-refused 3 p, table)
 
 -- the renamings put version names over added headers
 abbrev pub OverAdded : List Renaming → List ℕ → Type 0

@@ -12,7 +12,7 @@ use Rattle.iff_tree.specs.Judge.{found, readFile, run, chunkAt}
 use Rattle.iff_grammar.specs.Words.{Bytes}
 use Rattle.ilbm_spec.specs.Names.{ILBM, BMHD, CMAP}
 use Rattle.ilbm_spec.specs.Contents.{located, shared, absent, lastNamed, listScope, propertyOf, bodiesFrom, contentsFrom, movedBodies}
-use Rattle.ilbm_spec.specs.Pictures.{headerIn, wrongSize, headerRefusal, pictureRefusal, Viewed, pickContent, viewOf}
+use Rattle.ilbm_spec.specs.Pictures.{headerIn, wrongSize, fieldsRefusal, headerRefusal, pictureRefusal, Viewed, pickContent, viewOf}
 use Rattle.theorem_additions.specs.Additions.{here, past, into, Addition, chunk, propTypes, insert, boundaryPlace, around, growAll}
 use Rattle.theorem_additions.specs.Additions.{MayAddAll, fileAfter, movedBy}
 use Rattle.theorem_additions.specs.Statement.{movedView, Unchanged}
@@ -75,7 +75,7 @@ shows form outer bmhd inner cmap =
 view-before : viewOf file 0 ≡ shows 88 12 24 64 76
 unfolding
     readFile chunkAt run headerOf groupHeaderOf word wellFormed versionName typeName typeBytes reservedName kindOf propWithin
-    contentsFrom listScope propertyOf lastNamed bodiesFrom pickContent pictureRefusal wrongSize headerRefusal headerIn bytes
+    contentsFrom listScope propertyOf lastNamed bodiesFrom pickContent pictureRefusal wrongSize headerRefusal fieldsRefusal headerIn bytes
 view-before = refl
 
 view-moved : movedView (movedBy additions tree) (shows 88 12 24 64 76) ≡ shows 114 20 42 82 102

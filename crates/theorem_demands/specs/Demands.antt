@@ -5,7 +5,7 @@ use mathlib.Core.List.{List}
 use mathlib.Core.Logic.{_↔_}
 use lib.ListN.{length, take}
 use Rattle.iff_chunk.specs.Chunks.{Chunk, before, none, bytes, count}
-use Rattle.iff_tree.specs.Judge.{checkOf}
+use Rattle.iff_tree.specs.Judge.{found, refused, readFile, checkOf}
 use Rattle.iff_tree.specs.declared.Verdict.the-variants.{Accepted}
 use Rattle.iff_grammar.specs.Words.{Bytes}
 use Rattle.iff_grammar.specs.Grammar.{ChunkFile}
@@ -22,16 +22,22 @@ use Rattle.byterun_row.specs.Packing.{Packs}
 use Rattle.byterun_pack.specs.Pack.{packed, mostFor}
 use Rattle.byterun_pack.specs.laws.Packed as Packing
 use Rattle.ilbm_spec.specs.declared.BitmapHeader.{BitmapHeader}
+use Rattle.ilbm_spec.specs.declared.TableAnswer.the-variants.{Pictures}
+use Rattle.ilbm_spec.specs.Table.{tableOf, tableAnswer, tableAfter}
+use Rattle.theorem_table.specs.ByTable.{ByTable, RefusedBoth}
+use Rattle.theorem_table.specs.Theorem as Table
 use Rattle.write_picture.specs.declared.WriteAnswer.the-variants.{Written}
 use Rattle.write_form.specs.File.{pictureFile}
 use Rattle.write_picture.specs.Write.{writeOf, outAfter}
 use Rattle.theorem_roundtrip.specs.Header.{InRange}
 use Rattle.theorem_roundtrip.specs.RoundTrip as RoundTrip
+use Rattle.theorem_additions.specs.Additions.{Addition, fileAfter, MayAddAll, movedBy}
 use Rattle.theorem_additions.specs.Statement as Statement
 use Rattle.theorem_additions.specs.Demand3 as Additions
 use Rattle.theorem_demands.specs.Refusals.{Refusals}
 use Rattle.theorem_demands.specs.laws.Refusals as Calls
 use Rattle.theorem_demands.specs.Listings as Listings
+use Rattle.theorem_demands.specs.Tables as Tables
 
 -- Demand 1. Any bytes may be handed to any public call, and what it refuses with is one of the numbers that 01 gives for this call. That
 -- every call ends, stays inside what it was lent and answers by these definitions is what its proved contract says.
@@ -61,6 +67,17 @@ pub listings-end :
     (s : List ℕ) → Bytes s → (n e t i : ℕ) → Accepted n e t ≡ checkOf s → countOf s ≤ i → (recordOf s i ≡ Listed-refused 14 0) × (stepAt s (placeBefore s i) ≡ End)
 listings-end = Reader.ends-behind
 
+-- The pictures are given two ways that agree: what a caller reads from the file by the table of pictures, with the calls on a BODY by itself,
+-- is for each picture what the calls by its number tell, `ByTable` has each; there are as many pictures as rows. A file that is refused
+-- gives both ways the same number and place.
+pub table-answers-as-by-number :
+    (s : List ℕ) → Bytes s → (old : List ℕ) (n : ℕ) → tableAnswer (tableOf s (length old)) ≡ Pictures n →
+    ByTable s (tableAfter (tableOf s (length old)) old) n
+table-answers-as-by-number = Table.by-table
+
+pub table-refused-as-by-number : (s : List ℕ) (k p : ℕ) → readFile s ≡ refused k p → RefusedBoth s k p
+table-refused-as-by-number = Table.refused-both
+
 -- A packed row unpacks to the row, from any place of any BODY, and grows by at most one byte per started 128.
 pub packed-unpacks : (row : List ℕ) → Packs (packed row) row
 packed-unpacks = Packing.packed-unpacks
@@ -74,8 +91,21 @@ pub written-reads-back :
     RoundTrip.ReadsBack (take n (outAfter (writeOf b palette frame (length out)) (pictureFile b palette frame) out)) b palette frame
 written-reads-back = RoundTrip.round-trip
 
+-- So it does by its table of pictures, in any lent table with room for one.
+pub written-reads-back-by-table :
+    (b : BitmapHeader) (palette frame out : List ℕ) (n : ℕ) → InRange b → writeOf b palette frame (length out) ≡ Written n →
+    (old : List ℕ) → 30 ≤ length old →
+    Tables.ReadsBackByTable (take n (outAfter (writeOf b palette frame (length out)) (pictureFile b palette frame) out)) old b palette frame
+written-reads-back-by-table = Tables.written
+
 -- Demand 3. Whatever a later writer adds, list of additions and all: the file is still accepted, every call on every picture
--- answers as before, but that the place told for a PROP moves by the bytes put before that PROP, and version names over added headers
--- give 3 at the first of them.
+-- answers as before, but that the place told for a PROP moves by the bytes put before that PROP, as all places in the table of pictures do,
+-- and version names over added headers give 3 at the first of them.
 pub unchanged-by-additions : Statement.Demand3
 unchanged-by-additions = Additions.demand3
+
+-- By the two tables, of the file before and after, every call answers the same as well.
+pub unchanged-by-table :
+    (f : List ℕ) → Bytes f → (c : Chunk) → readFile f ≡ found c → (adds : List Addition) → MayAddAll adds c f → (old : List ℕ) (n : ℕ) →
+    tableAnswer (tableOf f (length old)) ≡ Pictures n → Tables.SameByTable f (fileAfter adds c f) old (movedBy adds c) n
+unchanged-by-table = Tables.unchanged

@@ -18,7 +18,7 @@ ofRecord = structural ++ (14 ∷ [])
 abbrev pub ofData : List ℕ
 ofData = structural ++ (14 ∷ 15 ∷ [])
 
--- 13: "accepted, but the lent table has fewer places than chunks"
+-- 13: "accepted, but the lent table has fewer places than chunks"; of the table of pictures, than pictures
 abbrev pub ofTable : List ℕ
 ofTable = structural ++ (13 ∷ [])
 
@@ -41,6 +41,17 @@ ofLine = ofPicture ++ (25 ∷ 29 ∷ 28 ∷ ofRows)
 
 abbrev pub ofFrame : List ℕ
 ofFrame = ofPicture ++ (25 ∷ 28 ∷ ofRows)
+
+-- Ask 2's "41, 42, 43, 24" alone, of a header's fields that are handed over as numbers with a BODY; then that BODY's rows. There is a
+-- BODY, so no 25.
+abbrev pub ofFields : List ℕ
+ofFields = 41 ∷ 42 ∷ 43 ∷ 24 ∷ []
+
+abbrev pub ofBodyLine : List ℕ
+ofBodyLine = ofFields ++ (29 ∷ 28 ∷ ofRows)
+
+abbrev pub ofBodyFrame : List ℕ
+ofBodyFrame = ofFields ++ (28 ∷ ofRows)
 
 -- "a row of 1 to 8,192 bytes (else 31)"; "32, here and everywhere"
 abbrev pub ofPacking : List ℕ

@@ -20,15 +20,19 @@ use Rattle.ilbm_spec.specs.declared.LineAnswer.the-variants.{Refused as Line-re
 use Rattle.ilbm_spec.specs.declared.FrameAnswer.the-variants.{Refused as Frame-refused}
 use Rattle.ilbm_spec.specs.Pictures.{pictureOf}
 use Rattle.ilbm_spec.specs.Palette.{paletteAnswer}
-use Rattle.ilbm_spec.specs.Rows.{lineAnswer, lineOf, frameAnswer, frameOf}
+use Rattle.ilbm_spec.specs.Rows.{lineAnswer, lineOf, lineInBody, frameAnswer, frameOf, frameInBody}
+use Rattle.ilbm_spec.specs.Table.{tableOf, tableAnswer}
+use Rattle.ilbm_spec.specs.declared.TableAnswer.the-variants.{Refused as Pictures-refused}
 use Rattle.byterun_pack.specs.Pack.{packNumber, packOf}
 use Rattle.write_picture.specs.Write.{writeOf}
 use Rattle.write_picture.specs.declared.WriteAnswer.the-variants.{Refused as Write-refused}
-use Rattle.theorem_demands.specs.Numbers.{OneOf, structural, ofRecord, ofData, ofTable, ofCopy, ofPicture, ofLine, ofFrame, ofPacking, ofWriting}
+use Rattle.theorem_demands.specs.Numbers.{OneOf, structural, ofRecord, ofData, ofTable, ofCopy, ofPicture, ofLine, ofFrame}
+use Rattle.theorem_demands.specs.Numbers.{ofBodyLine, ofBodyFrame, ofPacking, ofWriting}
 
 -- The exported calls on a file or a chunk each have a line here, those on a picture's properties one together (`ilbm_header`, `ilbm_grab`,
 -- `ilbm_dest`, `ilbm_sprite`, `ilbm_view_mode`): they tell the number and the place of this answer, and 0 where it is no refusal. So do
--- themselves the calls on a chunk's data, on the palette, of the reader and of the packer.
+-- themselves the calls on a chunk's data, on the palette, of the reader and of the packer. The table of pictures has a line, and so have a
+-- scan line and a frame of a BODY by itself.
 pub record Refusals : Type 0 where
   pub check : (s : List ℕ) (k p : ℕ) → checkOf s ≡ Refused k p → OneOf structural k p
   pub clean-copy : (s : List ℕ) (room k p : ℕ) → copyOf s room ≡ Copy-refused k p → OneOf ofCopy k p
@@ -42,6 +46,13 @@ pub record Refusals : Type 0 where
       (s : List ℕ) (i : ℕ) (default : List ℕ) → let a = paletteAnswer s i default in OneOf (0 ∷ ofPicture) (a .number) (a .place)
   pub line : (s : List ℕ) (i start room k p : ℕ) → lineAnswer (lineOf s i start room) ≡ Line-refused k p → OneOf ofLine k p
   pub frame : (s : List ℕ) (i room k p : ℕ) → frameAnswer (frameOf s i room) ≡ Frame-refused k p → OneOf ofFrame k p
+  pub picture-table : (s : List ℕ) (room k p : ℕ) → tableAnswer (tableOf s room) ≡ Pictures-refused k p → OneOf ofTable k p
+  pub body-line :
+      (body : List ℕ) (w planes masking compression start room k p : ℕ) →
+      lineAnswer (lineInBody body w planes masking compression start room) ≡ Line-refused k p → OneOf ofBodyLine k p
+  pub body-frame :
+      (body : List ℕ) (w h planes masking compression room k p : ℕ) →
+      frameAnswer (frameInBody body w h planes masking compression room) ≡ Frame-refused k p → OneOf ofBodyFrame k p
   pub pack : (row : List ℕ) (room : ℕ) → OneOf (0 ∷ ofPacking) (packNumber (packOf row room)) 0
   pub write :
       (b : BitmapHeader) (palette frame : List ℕ) (room k : ℕ) → writeOf b palette frame room ≡ Write-refused k → OneOf ofWriting k 0

@@ -10,6 +10,7 @@ use native.Mathlib.Nat.{mul-comm, zero-add}
 use native.Mathlib.Omega.{arith}
 use Rattle.iff_tree.specs.declared.Verdict.the-variants.{Accepted}
 use Rattle.iff_tree.specs.Judge.{found, readFile, checkOf, refused}
+use Rattle.iff_grammar.specs.Grammar.{ChunkFile}
 use Rattle.ilbm_spec.specs.declared.BitmapHeader.{BitmapHeader}
 use Rattle.ilbm_spec.specs.declared.PictureAnswer.the-variants.{Shown}
 use Rattle.ilbm_spec.specs.Contents.{contentsOf}
@@ -26,11 +27,12 @@ use Rattle.theorem_roundtrip.specs.Header.{InRange, withoutPad}
 use Rattle.theorem_roundtrip.specs.laws.Header.{header-back}
 use Rattle.theorem_roundtrip.specs.laws.Lines.{lines-back}
 use Rattle.theorem_roundtrip.specs.laws.Seen.{contentFor, one-content, picture-answered, palette-answered, no-refusal}
-use Rattle.theorem_roundtrip.specs.laws.Tree.{file-read, file-answered}
+use Rattle.theorem_roundtrip.specs.laws.Tree.{chunk-file, file-read, file-answered}
 use Rattle.theorem_roundtrip.specs.laws.Writable.{Writable, written-writable}
 
--- A file that reads as this picture and holds nothing else.
+-- A file that reads as this picture and holds nothing else: the chunk tree of the picture, and no byte after it.
 pub record ReadsBack (s : List ℕ) (b : BitmapHeader) (palette frame : List ℕ) : Type 0 where
+  pub grammar : ChunkFile s (pictureForm b palette frame) []
   pub accepted : checkOf s ≡ Accepted (chunksFor palette) (length s) 0
   pub tree : readFile s ≡ found (pictureForm b palette frame)
   pub pictures : length (contentsOf (pictureForm b palette frame)) ≡ 1
@@ -73,6 +75,7 @@ module _ (b : BitmapHeader) (palette frame : List ℕ) (room n : ℕ) (range : I
   file-back : ReadsBack (pictureFile b palette frame) b palette frame
   file-back =
       record {
+        grammar = chunk-file b palette frame (may .short);
         accepted = file-answered b palette frame (may .short);
         tree = file-read b palette frame (may .short);
         pictures = rw (one-content b palette frame);

@@ -1,6 +1,6 @@
--- Without a BODY it is 25; with one, `body_frame` has the answer, for the header that counts.
+-- Without a BODY it is 25; with one, `frame_in_body` has the answer, for the header that counts.
 use borrow.Author.Needs.{needs}
-use Rattle.ilbm_rows.proofs.Body.{planes-8, body-order, body-inside, frame-done}
+use Rattle.ilbm_rows.proofs.Body.{body-order, body-inside, frame-done}
 use Rattle.ilbm_rows.proofs.Laws.{frame-25}
 use Rattle.ilbm_rows.proofs.picture_frame.Statement.{statement}
 use Rattle.ilbm_rows.proofs.picture_frame.Tie as tie
@@ -11,17 +11,17 @@ enum-told c = search needs
 enum-known-body : tie.Need-enum-known-body
 enum-known-body c = search needs
 
-sub-body-frame : tie.Need-sub-body-frame
-sub-body-frame c = search (body-order, needs)
+sub-frame-in-body : tie.Need-sub-frame-in-body
+sub-frame-in-body c = search (body-order, needs)
 
-part-body-frame-start : tie.Need-part-body-frame-start
-part-body-frame-start c = search (body-order, needs)
+part-frame-in-body-start : tie.Need-part-frame-in-body-start
+part-frame-in-body-start c = search (body-order, needs)
 
-part-body-frame-end : tie.Need-part-body-frame-end
-part-body-frame-end c = search (body-inside, needs)
+part-frame-in-body-end : tie.Need-part-frame-in-body-end
+part-frame-in-body-end c = search (body-inside, needs)
 
-body-frame-requires : tie.Need-body-frame-requires
-body-frame-requires c κs = search (planes-8, needs)
+frame-in-body-requires : tie.Need-frame-in-body-requires
+frame-in-body-requires c κs = search needs
 
 returns : tie.Need-returns
 returns c = search (frame-25, needs)
@@ -38,10 +38,10 @@ picture-frame-spec =
     (tie.spec
     enum-told
     enum-known-body
-    sub-body-frame
-    part-body-frame-start
-    part-body-frame-end
-    body-frame-requires
+    sub-frame-in-body
+    part-frame-in-body-start
+    part-frame-in-body-end
+    frame-in-body-requires
     returns
     same-length
     returns-2)

@@ -1,6 +1,6 @@
--- Without a BODY it is 25; with one, `body_line` has the answer, for the header that counts.
+-- Without a BODY it is 25; with one, `line_in_body` has the answer, for the header that counts.
 use borrow.Author.Needs.{needs}
-use Rattle.ilbm_rows.proofs.Body.{planes-8, body-order, body-inside, line-done}
+use Rattle.ilbm_rows.proofs.Body.{body-order, body-inside, line-done}
 use Rattle.ilbm_rows.proofs.Laws.{line-25}
 use Rattle.ilbm_rows.proofs.picture_line.Statement.{statement}
 use Rattle.ilbm_rows.proofs.picture_line.Tie as tie
@@ -11,17 +11,17 @@ enum-told c = search needs
 enum-known-body : tie.Need-enum-known-body
 enum-known-body c = search needs
 
-sub-body-line : tie.Need-sub-body-line
-sub-body-line c = search (body-order, needs)
+sub-line-in-body : tie.Need-sub-line-in-body
+sub-line-in-body c = search (body-order, needs)
 
-part-body-line-start : tie.Need-part-body-line-start
-part-body-line-start c = search (body-order, needs)
+part-line-in-body-start : tie.Need-part-line-in-body-start
+part-line-in-body-start c = search (body-order, needs)
 
-part-body-line-end : tie.Need-part-body-line-end
-part-body-line-end c = search (body-inside, needs)
+part-line-in-body-end : tie.Need-part-line-in-body-end
+part-line-in-body-end c = search (body-inside, needs)
 
-body-line-requires : tie.Need-body-line-requires
-body-line-requires c κs = search (planes-8, needs)
+line-in-body-requires : tie.Need-line-in-body-requires
+line-in-body-requires c κs = search needs
 
 returns : tie.Need-returns
 returns c = search (line-25, needs)
@@ -38,10 +38,10 @@ picture-line-spec =
     (tie.spec
     enum-told
     enum-known-body
-    sub-body-line
-    part-body-line-start
-    part-body-line-end
-    body-line-requires
+    sub-line-in-body
+    part-line-in-body-start
+    part-line-in-body-end
+    line-in-body-requires
     returns
     same-length
     returns-2)

@@ -1,10 +1,10 @@
 -- No call looks at the place of a chunk but to tell it, so where the contents of all pictures are the same but for their places, every call
 -- answers the same but for them.
-use Prim.Native.Nat.{ℕ, zero, suc, _+_, _-_}
-use mathlib.Core.Path.{_≡_, refl, sym, ap, _∙_}
+use Prim.Native.Nat.{ℕ, zero, suc, _+_, _-_, _/_}
+use mathlib.Core.Path.{_≡_, refl, sym, ap, ap₂, _∙_}
 use mathlib.Core.Bool.{Bool, true, false}
 use mathlib.Core.List.{List, [], _∷_}
-use lib.Dec.{eqb}
+use lib.Dec.{eqb, ltb}
 use lib.ListN.{length}
 use native.Mathlib.Omega.{arith}
 use borrow.Author.Tests.{ne-eqb}
@@ -12,6 +12,8 @@ use Rattle.iff_name.specs.Name.{pick}
 use Rattle.iff_chunk.specs.Chunks.{Chunk}
 use Rattle.iff_tree.specs.Judge.{Found, found, readFile, refused}
 use Rattle.ilbm_spec.specs.declared.BitmapHeader.{BitmapHeader}
+use Rattle.ilbm_spec.specs.declared.TableAnswer.the-variants.{Pictures}
+use Rattle.ilbm_spec.specs.Names.{ILBM}
 use Rattle.ilbm_spec.specs.Contents.{Located, Property, own, shared, absent, Content, contentsOf, movedLocated, movedProperty}
 use Rattle.ilbm_spec.specs.Contents.{movedBodies, movedContent}
 use Rattle.ilbm_spec.specs.Pictures.{dataOf, counts, headerIn, wrongSize, pictureRefusal, Viewed, judged, pickContent, viewIn, viewOf}
@@ -19,7 +21,10 @@ use Rattle.ilbm_spec.specs.Pictures.{originOf, pictureFrom, pictureAnswer, pale
 use Rattle.ilbm_spec.specs.Palette.{answerIn, extentOf, extentFrom, extentIn}
 use Rattle.ilbm_spec.specs.Rows.{Read, onBody, askRows, lineRead, frameRead, lineOf, frameOf, lineAnswer, frameAnswer, bytesAfter}
 use Rattle.ilbm_spec.specs.laws.Moved.{mapContents}
-use Rattle.theorem_additions.specs.Statement.{movedView, movedOrigin, movedAnswer, movedExtent, SameAnswers}
+use Rattle.ilbm_spec.specs.Table.{propertyRow, bodyRow, PictureRow, rowWith, withoutParts, pictureRow, pictureRows}
+use Rattle.ilbm_spec.specs.Table.{rowsFor, tableOf, tableAnswer}
+use Rattle.theorem_additions.specs.Statement.{movedView, movedOrigin, movedAnswer, movedExtent, movedPropertyRow, movedBodyRow}
+use Rattle.theorem_additions.specs.Statement.{movedRow, movedRows, movedTable, SameAnswers}
 
 module _ (move : ℕ → ℕ) where
   counts-moved : (q : Property) → counts (movedProperty move q) ≡ counts q
@@ -99,6 +104,71 @@ module _ (move : ℕ → ℕ) where
       ap (λ (d : List ℕ). onBody (c .bodies) (λ body. rows (headerIn d) body)) (data-moved (c .bmhd))
   rows-moved (refused k p) rows = refl
 
+  -- the row of a picture: each part is where its chunk is
+  property-row : (q : Property) → propertyRow (movedProperty move q) ≡ movedPropertyRow move (propertyRow q)
+  property-row (own x) = λ i. record { origin = 1; shared = 0; from = located-moved x i .from; to = located-moved x i .to }
+  property-row (shared p x) = λ i. record { origin = 2; shared = move p; from = located-moved x i .from; to = located-moved x i .to }
+  property-row absent = refl
+
+  body-row : (bs : List Located) → bodyRow (movedBodies move bs) ≡ movedBodyRow move (bodyRow bs)
+  unfolding movedBodies
+  body-row [] = refl
+  body-row (x ∷ xs) = λ i. record { there = 1; from = located-moved x i .from; to = located-moved x i .to }
+
+  row-with : (k : ℕ) (c : Content) → rowWith k (movedContent move c) ≡ movedRow move (rowWith k c)
+  row-with k c i =
+      record {
+        answer = k;
+        place = move (c .place);
+        formType = ILBM;
+        bmhd = property-row (c .bmhd) i;
+        cmap = property-row (c .cmap) i;
+        grab = property-row (c .grab) i;
+        dest = property-row (c .dest) i;
+        sprt = property-row (c .sprt) i;
+        camg = property-row (c .camg) i;
+        body = body-row (c .bodies) i;
+      }
+
+  row-moved : (c : Content) → pictureRow (movedContent move c) ≡ movedRow move (pictureRow c)
+  unfolding pictureRow movedBodies
+  row-moved c = rw (refusal-moved c) (go (pictureRefusal c) (eqb (pictureRefusal c) 0))
+    where
+      go :
+          (k : ℕ) (b : Bool) → rowWith k (pick b (movedContent move c) (withoutParts (movedContent move c)))
+          ≡ movedRow move (rowWith k (pick b c (withoutParts c)))
+      go k true = row-with k c
+      go k false = row-with k (withoutParts c)
+
+  table-rows : (cs : List Content) → pictureRows (mapContents move cs) ≡ movedRows move (pictureRows cs)
+  unfolding pictureRows
+  table-rows [] = refl
+  table-rows (c ∷ cs) = ap₂ (λ (r : PictureRow) (rs : List PictureRow). r ∷ rs) (row-moved c) (table-rows cs)
+
+  as-many : (cs : List Content) → length (mapContents move cs) ≡ length cs
+  as-many [] = refl
+  as-many (c ∷ cs) = ap suc (as-many cs)
+
+  table-moved :
+      (room : ℕ) (c c′ : Chunk) → contentsOf c′ ≡ mapContents move (contentsOf c) →
+      rowsFor room (found c′) ≡ movedTable move (rowsFor room (found c))
+  table-moved room c c′ e =
+      rw (e, as-many (contentsOf c), table-rows (contentsOf c)) (go (ltb (room / 30) (length (contentsOf c))))
+    where
+      go :
+          (b : Bool) → pick b (refused 13 0) (found (movedRows move (pictureRows (contentsOf c))))
+          ≡ movedTable move (pick b (refused 13 0) (found (pictureRows (contentsOf c))))
+      go true = refl
+      go false = refl
+
+  answer-moved : (t : Found (List PictureRow)) → tableAnswer (movedTable move t) ≡ tableAnswer t
+  answer-moved (found rs) = ap Pictures (go rs)
+    where
+      go : (rs : List PictureRow) → length (movedRows move rs) ≡ length rs
+      go [] = refl
+      go (r ∷ rs) = ap suc (go rs)
+  answer-moved (refused k p) = refl
+
   pub same-answers : (f g : List ℕ) (c c′ : Chunk) → readFile f ≡ found c → readFile g ≡ found c′
       → contentsOf c′ ≡ mapContents move (contentsOf c) → SameAnswers f g move
   same-answers f g c c′ ef eg e = record {
@@ -108,6 +178,8 @@ module _ (move : ℕ → ℕ) where
     extents = λ i. ap extentIn (view i) ∙ extent-moved (viewOf f i);
     lines = λ i start row. ap (λ (x : Read (List ℕ)). (lineAnswer x, bytesAfter x row)) (line i start (length row));
     frames = λ i frame. ap (λ (x : Read (List ℕ)). (frameAnswer x, bytesAfter x frame)) (whole i (length frame));
+    tables = table;
+    table-answers = λ room. ap tableAnswer (table room) ∙ answer-moved (tableOf f room);
   }
     where
       view : (i : ℕ) → viewOf g i ≡ movedView move (viewOf f i)
@@ -122,3 +194,6 @@ module _ (move : ℕ → ℕ) where
 
       whole : (i room : ℕ) → frameOf g i room ≡ frameOf f i room
       whole i room = ap (λ (v : Viewed). frameRead v room) (view i) ∙ rows-moved (viewOf f i) _
+
+      table : (room : ℕ) → tableOf g room ≡ movedTable move (tableOf f room)
+      table room = ap (rowsFor room) eg ∙ table-moved room c c′ e ∙ ap (λ (r : Found Chunk). movedTable move (rowsFor room r)) (sym ef)

@@ -29,7 +29,9 @@ use Rattle.ilbm_spec.specs.Pictures.{viewIn, pictureAnswer}
 use Rattle.ilbm_spec.specs.Palette.{answerIn, extentIn}
 use Rattle.ilbm_spec.specs.declared.LineAnswer.{LineAnswer}
 use Rattle.ilbm_spec.specs.declared.FrameAnswer.{FrameAnswer}
+use Rattle.ilbm_spec.specs.declared.TableAnswer.{TableAnswer}
 use Rattle.ilbm_spec.specs.Rows.{Read, lineRead, frameRead, lineAnswer, frameAnswer, bytesAfter}
+use Rattle.ilbm_spec.specs.Table.{PictureRow, rowsFor, tableAnswer, tableAfter}
 use Rattle.theorem_additions.specs.Statement.{AllRefused}
 use Rattle.theorem_additions.specs.laws.Bytes.{pass}
 use Rattle.theorem_additions.specs.laws.Places.{HeaderAt, none-case, leaf-cases, group-cases, header-low}
@@ -211,6 +213,9 @@ lineIn x row = (lineAnswer x, bytesAfter x row)
 abbrev frameIn : Read (List ℕ) → List ℕ → FrameAnswer × List ℕ
 frameIn x frame = (frameAnswer x, bytesAfter x frame)
 
+abbrev tableIn : Found (List PictureRow) → List ℕ → TableAnswer × List ℕ
+tableIn x table = (tableAnswer x, tableAfter x table)
+
 -- a file that is refused gives its refusal to every call
 pub all-refused : (g : List ℕ) (p : ℕ) → readFile g ≡ refused 3 p → AllRefused g p
 all-refused g p e = record {
@@ -221,4 +226,5 @@ all-refused g p e = record {
   extents = λ i. ap (λ (r : Found Chunk). extentIn (viewIn r i)) e;
   lines = λ i start row. ap (λ (r : Found Chunk). lineIn (lineRead (viewIn r i) start (length row)) row) e;
   frames = λ i frame. ap (λ (r : Found Chunk). frameIn (frameRead (viewIn r i) (length frame)) frame) e;
+  tables = λ table. ap (λ (r : Found Chunk). tableIn (rowsFor (length table) r) table) e;
 }

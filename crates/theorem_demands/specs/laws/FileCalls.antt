@@ -25,6 +25,9 @@ use Rattle.list_reader.specs.Reading.{refusalIn, openingOf}
 use Rattle.ilbm_count.specs.declared.Counted.{Counted}
 use Rattle.ilbm_count.specs.declared.Counted.the-variants.{Pictures, Refused as Count-refused}
 use Rattle.ilbm_count.specs.Count.{countIn, countOf}
+use Rattle.ilbm_spec.specs.declared.TableAnswer.{TableAnswer}
+use Rattle.ilbm_spec.specs.declared.TableAnswer.the-variants.{Pictures as Table-pictures, Refused as Pictures-refused}
+use Rattle.ilbm_spec.specs.Table.{PictureRow, rowsFor, tableOf, tableAnswer}
 use Rattle.theorem_demands.specs.Numbers.{structural, ofRecord, ofData, ofTable, ofCopy, among, OneOf}
 use Rattle.theorem_demands.specs.laws.Numbers.{Refuses, within, widened}
 use Rattle.theorem_demands.specs.laws.Structure.{file-refuses}
@@ -95,6 +98,26 @@ count-by (refused k p) i = i
 
 pub picture-count : (s : List ℕ) (k p : ℕ) → countOf s ≡ Count-refused k p → OneOf structural k p
 picture-count s k p e = subst Counted-by e (count-by (readFile s) (file-refuses s))
+
+-- ---- the table of pictures
+
+abbrev Pictures-by : TableAnswer → Type 0
+Pictures-by (Table-pictures n) = Unit {0}
+Pictures-by (Pictures-refused k p) = OneOf ofTable k p
+
+pictures-choice :
+    (b : Bool) (rs : List PictureRow) → Pictures-by (tableAnswer (pick b (refused 13 0) (found rs)))
+unfolding among
+pictures-choice true rs = (refl, refl)
+pictures-choice false rs = tt
+
+pictures-by : (room : ℕ) (f : Found Chunk) → Refuses structural f → Pictures-by (tableAnswer (rowsFor room f))
+unfolding within among
+pictures-by room (found c) i = search pictures-choice
+pictures-by room (refused k p) i = with-others ofTable k p refl i
+
+pub picture-table : (s : List ℕ) (room k p : ℕ) → tableAnswer (tableOf s room) ≡ Pictures-refused k p → OneOf ofTable k p
+picture-table s room k p e = subst Pictures-by e (pictures-by room (readFile s) (file-refuses s))
 
 -- ---- one record, and its data
 

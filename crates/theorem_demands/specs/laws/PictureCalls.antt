@@ -16,16 +16,16 @@ use Rattle.ilbm_spec.specs.declared.FrameAnswer.{FrameAnswer}
 use Rattle.ilbm_spec.specs.declared.FrameAnswer.the-variants.{Leftover, Refused as Frame-refused}
 use Rattle.ilbm_spec.specs.Pictures.{Viewed, viewOf, pictureAnswer, pictureOf}
 use Rattle.ilbm_spec.specs.Palette.{answerIn, paletteAnswer}
-use Rattle.ilbm_spec.specs.Rows.{Read, lineAnswer, lineOf, frameAnswer, frameOf}
+use Rattle.ilbm_spec.specs.Rows.{Read, lineAnswer, lineOf, lineInBody, frameAnswer, frameOf, frameInBody}
 use Rattle.byterun_pack.specs.declared.PackAnswer.{PackAnswer}
 use Rattle.byterun_pack.specs.declared.PackAnswer.the-variants.{Written as Packed, BadLength, NoRoom}
 use Rattle.byterun_pack.specs.Pack.{packNumber, packOf}
 use Rattle.write_picture.specs.declared.WriteAnswer.{WriteAnswer}
 use Rattle.write_picture.specs.declared.WriteAnswer.the-variants.{Written, Refused as Write-refused}
 use Rattle.write_picture.specs.Write.{writeOf}
-use Rattle.theorem_demands.specs.Numbers.{ofPicture, ofLine, ofFrame, ofPacking, ofWriting, among, OneOf}
+use Rattle.theorem_demands.specs.Numbers.{ofPicture, ofLine, ofFrame, ofBodyLine, ofBodyFrame, ofPacking, ofWriting, among, OneOf}
 use Rattle.theorem_demands.specs.laws.Numbers.{Refuses, without-place, within, widened}
-use Rattle.theorem_demands.specs.laws.Pictures.{view-refuses, scan-line-refuses, frame-refuses}
+use Rattle.theorem_demands.specs.laws.Pictures.{view-refuses, scan-line-refuses, frame-refuses, body-line-refuses, body-frame-refuses}
 
 -- ---- a picture
 
@@ -50,27 +50,41 @@ pub palette :
     (s : List ℕ) (i : ℕ) (default : List ℕ) → let a = paletteAnswer s i default in OneOf (0 ∷ ofPicture) (a .number) (a .place)
 palette s i default = palette-by (viewOf s i) default (view-refuses s i)
 
-abbrev Line-by : LineAnswer → Type 0
-Line-by (Next q) = Unit {0}
-Line-by (Line-refused k p) = OneOf ofLine k p
+abbrev Line-by : List ℕ → LineAnswer → Type 0
+Line-by numbers (Next q) = Unit {0}
+Line-by numbers (Line-refused k p) = OneOf numbers k p
 
-line-by : (r : Read (List ℕ)) → Refuses ofLine r → Line-by (lineAnswer r)
-line-by (found (cs, q)) i = tt
-line-by (refused k p) i = i
+line-by : (numbers : List ℕ) (r : Read (List ℕ)) → Refuses numbers r → Line-by numbers (lineAnswer r)
+line-by numbers (found (cs, q)) i = tt
+line-by numbers (refused k p) i = i
 
 pub line : (s : List ℕ) (i start room k p : ℕ) → lineAnswer (lineOf s i start room) ≡ Line-refused k p → OneOf ofLine k p
-line s i start room k p e = subst Line-by e (line-by (lineOf s i start room) (scan-line-refuses s i start room))
+line s i start room k p e = subst (Line-by ofLine) e (line-by ofLine (lineOf s i start room) (scan-line-refuses s i start room))
 
-abbrev Frame-by : FrameAnswer → Type 0
-Frame-by (Leftover n) = Unit {0}
-Frame-by (Frame-refused k p) = OneOf ofFrame k p
+abbrev Frame-by : List ℕ → FrameAnswer → Type 0
+Frame-by numbers (Leftover n) = Unit {0}
+Frame-by numbers (Frame-refused k p) = OneOf numbers k p
 
-frame-by : (r : Read (List ℕ)) → Refuses ofFrame r → Frame-by (frameAnswer r)
-frame-by (found (cs, n)) i = tt
-frame-by (refused k p) i = i
+frame-by : (numbers : List ℕ) (r : Read (List ℕ)) → Refuses numbers r → Frame-by numbers (frameAnswer r)
+frame-by numbers (found (cs, n)) i = tt
+frame-by numbers (refused k p) i = i
 
 pub frame : (s : List ℕ) (i room k p : ℕ) → frameAnswer (frameOf s i room) ≡ Frame-refused k p → OneOf ofFrame k p
-frame s i room k p e = subst Frame-by e (frame-by (frameOf s i room) (frame-refuses s i room))
+frame s i room k p e = subst (Frame-by ofFrame) e (frame-by ofFrame (frameOf s i room) (frame-refuses s i room))
+
+pub body-line :
+    (body : List ℕ) (w planes masking compression start room k p : ℕ) →
+    lineAnswer (lineInBody body w planes masking compression start room) ≡ Line-refused k p → OneOf ofBodyLine k p
+body-line body w planes masking compression start room k p e =
+    let r : Read (List ℕ) = lineInBody body w planes masking compression start room in
+    subst (Line-by ofBodyLine) e (line-by ofBodyLine r (body-line-refuses body w planes masking compression start room))
+
+pub body-frame :
+    (body : List ℕ) (w h planes masking compression room k p : ℕ) →
+    frameAnswer (frameInBody body w h planes masking compression room) ≡ Frame-refused k p → OneOf ofBodyFrame k p
+body-frame body w h planes masking compression room k p e =
+    let r : Read (List ℕ) = frameInBody body w h planes masking compression room in
+    subst (Frame-by ofBodyFrame) e (frame-by ofBodyFrame r (body-frame-refuses body w h planes masking compression room))
 
 -- ---- writing
 

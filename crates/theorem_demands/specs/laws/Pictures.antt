@@ -1,5 +1,6 @@
 -- A picture is refused by the file's numbers and by those of pictures: its number is one of these where it is not 0. Rows are asked of such
--- a picture, and each row that is read is whole or refused by 27 or 26, so are rows and scan lines one after the other.
+-- a picture, and each row that is read is whole or refused by 27 or 26, so are rows and scan lines one after the other. Of a BODY by itself
+-- they are asked after its header's fields, whose number is one of four where it is not 0.
 use Prim.Native.Nat.{ℕ, zero, suc}
 use mathlib.Core.Path.{_≡_, refl}
 use mathlib.Core.Bool.{Bool, true, false}
@@ -11,36 +12,53 @@ use Rattle.iff_tree.specs.Judge.{Found, found, refused, readFile}
 use Rattle.byterun_row.specs.ByteRun.{Row, filled, over, short}
 use Rattle.ilbm_spec.specs.declared.BitmapHeader.{BitmapHeader}
 use Rattle.ilbm_spec.specs.Contents.{Located, Content, contentsOf}
-use Rattle.ilbm_spec.specs.Pictures.{Viewed, headerRefusal, pictureRefusal, judged, pickContent, viewIn, viewOf}
-use Rattle.ilbm_spec.specs.Rows.{Read, thenRead, rowRead, rowsFrom, lineBy, linesBy, leftover, onBody, askRows, lineOf, frameOf}
-use Rattle.theorem_demands.specs.Numbers.{structural, ofPicture, ofRows, ofLine, ofFrame, among, OneOf}
-use Rattle.theorem_demands.specs.laws.Numbers.{Refuses, without-place, choice-refuses, within, widened}
+use Rattle.ilbm_spec.specs.Pictures.{Viewed, fieldsRefusal, headerRefusal, pictureRefusal, judged, pickContent, viewIn, viewOf}
+use Rattle.ilbm_spec.specs.Rows.{Read, thenRead, rowRead, rowsFrom, lineBy, linesBy, leftover, lineInBody, frameInBody, onBody}
+use Rattle.ilbm_spec.specs.Rows.{askRows, lineOf, frameOf}
+use Rattle.theorem_demands.specs.Numbers.{structural, ofPicture, ofRows, ofLine, ofFrame, ofFields, ofBodyLine, ofBodyFrame, among, OneOf}
+use Rattle.theorem_demands.specs.laws.Numbers.{Refuses, without-place, choice-refuses, within, among-within, widened}
 use Rattle.theorem_demands.specs.laws.Structure.{file-refuses}
 
 -- ---- the picture
 
-abbrev Zero-or : ℕ → Type 0
-Zero-or k = among k (0 ∷ ofPicture) ≡ true
+abbrev Zero-or : List ℕ → ℕ → Type 0
+Zero-or numbers k = among k (0 ∷ numbers) ≡ true
 
-choice-number : (b : Bool) (m n : ℕ) → Zero-or m → Zero-or n → Zero-or (pick b m n)
-choice-number true m n i j = i
-choice-number false m n i j = j
+choice-number : (numbers : List ℕ) (b : Bool) (m n : ℕ) → Zero-or numbers m → Zero-or numbers n → Zero-or numbers (pick b m n)
+choice-number numbers true m n i j = i
+choice-number numbers false m n i j = j
 
-header-number : (b : BitmapHeader) (hasBody : Bool) → Zero-or (headerRefusal b hasBody)
-unfolding headerRefusal among
-header-number b hasBody = search choice-number
+field-number : (planes masking compression : ℕ) (empty : Bool) → Zero-or ofFields (fieldsRefusal planes masking compression empty)
+unfolding fieldsRefusal among
+field-number planes masking compression empty = search choice-number
 
-picture-number : (c : Content) → Zero-or (pictureRefusal c)
+fields-number :
+    (numbers : List ℕ) (planes masking compression : ℕ) (empty : Bool) → within (0 ∷ ofFields) (0 ∷ numbers) ≡ true →
+    Zero-or numbers (fieldsRefusal planes masking compression empty)
+fields-number numbers planes masking compression empty w =
+    among-within (0 ∷ ofFields) (0 ∷ numbers) _ w (field-number planes masking compression empty)
+
+header-number : (b : BitmapHeader) (hasBody : Bool) → Zero-or ofPicture (headerRefusal b hasBody)
+unfolding headerRefusal within among
+header-number b hasBody = fields-number ofPicture (b .planes) (b .masking) (b .compression) _ refl
+
+picture-number : (c : Content) → Zero-or ofPicture (pictureRefusal c)
 unfolding pictureRefusal among
 picture-number c = search (choice-number, header-number)
 
-judged-refuses : (c : Content) → Refuses ofPicture (judged c)
+-- a refusal by this number, unless it is 0
+unless-zero :
+    {A : Type 0} (numbers : List ℕ) (k : ℕ) (x : Found A) → Zero-or numbers k → Refuses numbers x →
+    Refuses numbers (pick (eqb k 0) x (refused k 0))
 unfolding among
-judged-refuses c = go (pictureRefusal c) (eqb (pictureRefusal c) 0) (picture-number c)
+unless-zero {A} numbers k x i j = go (eqb k 0) i
   where
-    go : (k : ℕ) (b : Bool) → either b (among k ofPicture) ≡ true → Refuses ofPicture (pick b (found c) (refused k 0))
-    go k true i = tt
-    go k false i = without-place ofPicture k i
+    go : (b : Bool) → either b (among k numbers) ≡ true → Refuses {A = A} numbers (pick b x (refused k 0))
+    go true i = j
+    go false i = without-place numbers k i
+
+judged-refuses : (c : Content) → Refuses ofPicture (judged c)
+judged-refuses c = unless-zero ofPicture (pictureRefusal c) (found c) (picture-number c) tt
 
 pick-refuses : (cs : List Content) (i : ℕ) → Refuses ofPicture (pickContent cs i)
 unfolding pickContent among
@@ -108,16 +126,17 @@ leftover-refuses : (numbers : List ℕ) (n : ℕ) (x : Read (List ℕ)) → Refu
 leftover-refuses numbers n (found (cs, q)) i = tt
 leftover-refuses numbers n (refused k p) i = i
 
-of-line : (compression w planes rows : ℕ) (body : List ℕ) (at : ℕ) → Refuses ofLine (lineBy compression w planes rows body at)
-unfolding within among
-of-line compression w planes rows body at =
-    widened ofRows ofLine refl (lineBy compression w planes rows body at) (line-refuses compression w planes rows body at)
+of-line :
+    (numbers : List ℕ) (compression w planes rows : ℕ) (body : List ℕ) (at : ℕ) → within ofRows numbers ≡ true →
+    Refuses numbers (lineBy compression w planes rows body at)
+of-line numbers compression w planes rows body at i =
+    widened ofRows numbers i (lineBy compression w planes rows body at) (line-refuses compression w planes rows body at)
 
 of-lines :
-    (compression w planes rows : ℕ) (body : List ℕ) (lines at : ℕ) → Refuses ofFrame (linesBy compression w planes rows body lines at)
-unfolding within among
-of-lines compression w planes rows body lines at =
-    widened ofRows ofFrame refl (linesBy compression w planes rows body lines at) (lines-refuse compression w planes rows body lines at)
+    (numbers : List ℕ) (compression w planes rows : ℕ) (body : List ℕ) (lines at : ℕ) → within ofRows numbers ≡ true →
+    Refuses numbers (linesBy compression w planes rows body lines at)
+of-lines numbers compression w planes rows body lines at i =
+    widened ofRows numbers i (linesBy compression w planes rows body lines at) (lines-refuse compression w planes rows body lines at)
 
 pub scan-line-refuses : (s : List ℕ) (i start room : ℕ) → Refuses ofLine (lineOf s i start room)
 unfolding within among
@@ -126,3 +145,19 @@ scan-line-refuses s i start room = search (asked-refuses, view-refuses, choice-r
 pub frame-refuses : (s : List ℕ) (i room : ℕ) → Refuses ofFrame (frameOf s i room)
 unfolding within among
 frame-refuses s i room = search (asked-refuses, view-refuses, choice-refuses, leftover-refuses, of-lines)
+
+-- ---- rows of a BODY by itself
+
+pub body-line-refuses :
+    (body : List ℕ) (w planes masking compression start room : ℕ) →
+    Refuses ofBodyLine (lineInBody body w planes masking compression start room)
+unfolding within among
+body-line-refuses body w planes masking compression start room =
+    search (unless-zero, fields-number, choice-refuses, of-line)
+
+pub body-frame-refuses :
+    (body : List ℕ) (w h planes masking compression room : ℕ) →
+    Refuses ofBodyFrame (frameInBody body w h planes masking compression room)
+unfolding within among
+body-frame-refuses body w h planes masking compression room =
+    search (unless-zero, fields-number, choice-refuses, leftover-refuses, of-lines)

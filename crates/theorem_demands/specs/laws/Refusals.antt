@@ -17,6 +17,9 @@ refusals =
       palette = PictureCalls.palette;
       line = PictureCalls.line;
       frame = PictureCalls.frame;
+      picture-table = FileCalls.picture-table;
+      body-line = PictureCalls.body-line;
+      body-frame = PictureCalls.body-frame;
       pack = PictureCalls.pack;
       write = PictureCalls.write;
     }

@@ -8,7 +8,7 @@ use borrow.Author.Tests.{eq-eqb}
 use Rattle.iff_chunk.specs.Chunks.{word}
 use Rattle.ilbm_spec.specs.declared.BitmapHeader.{BitmapHeader}
 use Rattle.ilbm_spec.specs.Contents.{located, lastNamed, propertyOf, bodiesFrom, Property, own, absent, Content, contentsFrom, contentsOf}
-use Rattle.ilbm_spec.specs.Pictures.{headerIn, hotSpotIn, destinationIn, originOf, sizeNotTriples, wrongSize, headerRefusal}
+use Rattle.ilbm_spec.specs.Pictures.{headerIn, hotSpotIn, destinationIn, originOf, sizeNotTriples, wrongSize, fieldsRefusal, headerRefusal}
 use Rattle.ilbm_spec.specs.Pictures.{pictureRefusal, pictureFrom, paletteFrom}
 use Rattle.write_body.specs.Body.{bodyBytes}
 use Rattle.write_form.specs.File.{headerBytes, padOf, pictureForm}
@@ -71,7 +71,7 @@ sizes-right b palette frame e = rw (triples-right (cmapPlace b) palette e)
 
 module _ (b : BitmapHeader) (palette frame : List ℕ) (room n : ℕ) (range : InRange b) (may : Writable b palette frame room n) where
   fields-right : headerRefusal (headerIn (headerBytes b)) true ≡ 0
-  unfolding headerRefusal
+  unfolding headerRefusal fieldsRefusal
   fields-right = rw (header-back b range) (simp (may .shallow, may .masking, may .compression, may .wide, may .high, may .deep))
 
   pub no-refusal : pictureRefusal (contentFor b palette frame) ≡ 0

@@ -41,7 +41,7 @@ form-count b [] frame = refl
 form-count b (x ∷ xs) frame = refl
 
 module _ (b : BitmapHeader) (palette frame : List ℕ) (short : length (pictureFile b palette frame) ≤ 16777216) where
-  chunk-file : ChunkFile (pictureFile b palette frame) (pictureForm b palette frame) []
+  pub chunk-file : ChunkFile (pictureFile b palette frame) (pictureForm b palette frame) []
   unfolding pictureFile
   chunk-file =
       record {

@@ -1,0 +1,3 @@
+pub mod ByTable
+pub mod Theorem
+pub mod laws
