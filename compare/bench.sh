@@ -1,5 +1,5 @@
 #!/bin/sh
-# The benchmark, or the part of it that is named: structure, frames, rows or growth. Frames are timed beside libavcodec too, where
+# The benchmark, or the part of it that is named: structure, frames, rows, pictures or growth. Frames are timed beside libavcodec too, where
 # pkg-config finds it.
 set -eu
 cd "$(dirname "$0")"

@@ -178,7 +178,9 @@ enum {
 
 /*
  * The calls for the properties below take and tell these beside the fields.
- * Refusals: 1 to 12, then those of pictures, above.
+ * Refusals: 1 to 12, then those of pictures, above. Each checks the file and
+ * goes through it up to the picture; ilbm_pictures, further down, tells all
+ * pictures in that time.
  *
  *   file, file_length  the file
  *   picture            the picture's number
@@ -289,6 +291,101 @@ size_t ilbm_frame(const uint8_t *file, size_t file_length, size_t picture,
                   size_t *leftover);
 
 /*
+ * What the table of pictures tells of a property: its origin, one of those
+ * above; where the header of the PROP that has it stands, 0 unless shared; and
+ * where its data lies, file[from] to file[to - 1], 0 and 0 if it is absent.
+ */
+struct ilbm_property {
+    size_t origin, shared, from, to;
+};
+
+/* A place of the table of pictures: 30 numbers. */
+struct ilbm_picture {
+    size_t answer;             /* 0, or 21, 22, 23, 41, 42, 43 or 24 */
+    size_t place;              /* where its FORM's header stands */
+    size_t type;               /* its FORM's type, first byte highest: ILBM */
+    struct ilbm_property bmhd; /* the properties that count */
+    struct ilbm_property cmap, grab, dest, sprt, camg;
+    size_t body;               /* 1 if there is a BODY, and 0 if not */
+    size_t body_from, body_to; /* its data is file[body_from] to file[body_to - 1] */
+};
+
+enum { ILBM_PICTURE_NUMBERS = 30 };
+
+/* Fails to compile where the members don't lie one after the other. */
+typedef char ilbm_picture_is_thirty_numbers
+    [sizeof(struct ilbm_picture) == ILBM_PICTURE_NUMBERS * sizeof(size_t) ? 1 : -1];
+
+/*
+ * Tells all pictures of the file in one walk, in file order; an array of
+ * struct ilbm_picture may be lent as the table. Refusals: 1 to 12, then 13 if
+ * the table has fewer places, of 30 numbers each, than the file has pictures
+ * (place 0). A refusal changes nothing in the table, and the numbers behind the
+ * last picture stay as they are. iff_count_pictures tells how many places there
+ * must be; file_length / 12 are always enough.
+ *
+ * A picture is refused by its `answer`, with the number that every call on it
+ * returns; then its place and type are told, and its other numbers are 0.
+ * The numbers are of this file as it is: they hold as long as it isn't changed.
+ *
+ *   file, file_length    the file
+ *   table, table_length  the table; the length counts numbers
+ *   place                out: the place of a refusal
+ *   pictures             out: how many pictures there are
+ */
+size_t ilbm_pictures(const uint8_t *file, size_t file_length, size_t *table,
+                     size_t table_length, size_t *place, size_t *pictures);
+
+/*
+ * Tells the fields of a BMHD by its bytes alone. Refusals: 23 if it hasn't 20
+ * bytes; every field is 0 then.
+ *
+ *   data, data_length  the bytes
+ *   the fields         out: as ilbm_header tells them
+ */
+size_t ilbm_bmhd(const uint8_t *data, size_t data_length, uint16_t *w,
+                 uint16_t *h, int16_t *x, int16_t *y, uint8_t *planes,
+                 uint8_t *masking, uint8_t *compression, uint8_t *pad1,
+                 uint16_t *transparent, uint8_t *x_aspect, uint8_t *y_aspect,
+                 int16_t *page_width, int16_t *page_height);
+
+/*
+ * Writes the colour numbers of one scan line from any bytes as a BODY and the
+ * header's fields, with no file and no check of one: all that it takes is in
+ * proportion to the line. Refusals, in this order: 41 planes over 8, 42 masking
+ * over 3, 43 compression over 1, 24 w or planes 0, 29 for a start beyond the
+ * BODY's end, 28 if the row hasn't w bytes, 27 and 26 as of ilbm_line. A
+ * refusal changes no byte of the row.
+ *
+ *   body, body_length                the BODY
+ *   w, planes, masking, compression  the fields of the header
+ *   start                            where the line starts in the BODY, 0 for the first one
+ *   row, row_length                  the row
+ *   place                            out: the place of 27 and 26 in the BODY
+ *   next                             out: where the next line starts
+ */
+size_t ilbm_body_line(const uint8_t *body, size_t body_length, uint16_t w,
+                      uint8_t planes, uint8_t masking, uint8_t compression,
+                      size_t start, uint8_t *row, size_t row_length,
+                      size_t *place, size_t *next);
+
+/*
+ * Writes the colour numbers of all scan lines in the same way, line by line.
+ * Refusals, in this order: 41, 42, 43, 24 also for h 0, 28 if the frame hasn't
+ * w times h bytes, 27 and 26. A refusal changes no byte of the frame.
+ *
+ *   body, body_length                   the BODY
+ *   w, h, planes, masking, compression  the fields of the header
+ *   frame, frame_length                 the frame
+ *   place                               out: the place of 27 and 26 in the BODY
+ *   leftover                            out: the bytes of the BODY after the last line
+ */
+size_t ilbm_body_frame(const uint8_t *body, size_t body_length, uint16_t w,
+                       uint16_t h, uint8_t planes, uint8_t masking,
+                       uint8_t compression, uint8_t *frame,
+                       size_t frame_length, size_t *place, size_t *leftover);
+
+/*
  * Packs one row by ByteRun1. Refusals: 31 if the row hasn't 1 to 8,192 bytes,
  * then 32 if the result is longer than the buffer. row_length +
  * (row_length + 127) / 128 bytes are always enough.
@@ -356,7 +453,7 @@ static inline const char *florinhado_meaning(size_t number)
     case 10: return "a group of size under 4";
     case 11: return "type not allowed";
     case 12: return "second PROP of the same type in this LIST";
-    case 13: return "fewer places in the table than chunks";
+    case 13: return "fewer places in the table than chunks or pictures";
     case 14: return "no such record";
     case 15: return "a group, where a local chunk or filler is asked for";
     case 20: return "no such picture";

@@ -3,6 +3,19 @@
 Run build.sh once; it makes the shared object that is loaded here. The
 environment's FLORINHADO may name another one.
 
+A file is opened and checked once, and gives its pictures:
+
+>>> with open("../../samples/two_levels.iff") as file:
+...     for picture in file.pictures()[:2]:
+...         fields = picture.header().value
+...         print(fields.width, "by", fields.height, [list(line) for line in picture.lines()])
+8 by 2 [[0, 0, 0, 0, 0, 0, 0, 0], [1, 1, 1, 1, 1, 1, 1, 1]]
+8 by 2 [[0, 0, 0, 0, 0, 2, 2, 1], [1, 1, 1, 1, 1, 1, 3, 2]]
+
+Bytes are taken from whatever lends them, bytes, bytearray, memoryview or mmap, and not
+copied; no other thread may change them while a call reads them. The functions below take
+a file's bytes, and those on a picture go through them each time.
+
 >>> check(b"FORM\\0\\0\\0\\x04ILBM")
 Accepted(chunks=1, end=12, trailing=0)
 >>> check(b"FORM\\0\\0\\0\\x04ILB")
@@ -48,10 +61,14 @@ florinhado.Refused: refusal 43 at 0: compression 2 or more: only 0 and 1 are kno
 [{41}, {42}, {43}, {24}, {41}, {None}]
 """
 
+import contextlib
 import ctypes
 import enum
+import io
+import mmap
 import os
 import pathlib
+import struct
 from typing import NamedTuple
 
 MEANINGS = {
@@ -67,7 +84,7 @@ MEANINGS = {
     10: "a group of size under 4",
     11: "type not allowed",
     12: "second PROP of the same type in this LIST",
-    13: "fewer places in the table than chunks",
+    13: "fewer places in the table than chunks or pictures",
     14: "no such record",
     15: "a group, where a local chunk or filler is asked for",
     20: "no such picture",
@@ -93,12 +110,13 @@ MEANINGS = {
 
 
 class Refused(Exception):
-    """A refusal with its number and the place that it speaks of."""
+    """A refusal with its number, the place that it speaks of, and what it means."""
 
     def __init__(self, number, place):
         super().__init__(f"refusal {number} at {place}: {MEANINGS[number]}")
         self.number = number
         self.place = place
+        self.meaning = MEANINGS[number]
 
 
 class Accepted(NamedTuple):
@@ -194,7 +212,49 @@ def _load():
 
 _SIZE = ctypes.c_size_t
 _BYTE, _WORD, _LONG, _SIGNED = ctypes.c_uint8, ctypes.c_uint16, ctypes.c_uint32, ctypes.c_int16
-_BYTES = [ctypes.c_char_p, _SIZE]
+_BYTES = [ctypes.c_void_p, _SIZE]
+
+
+class _Buffer(ctypes.Structure):
+    """Py_buffer: the memory that an object lends."""
+
+    _fields_ = [
+        ("address", ctypes.c_void_p),
+        ("owner", ctypes.c_void_p),
+        ("length", ctypes.c_ssize_t),
+        ("item_size", ctypes.c_ssize_t),
+        ("read_only", ctypes.c_int),
+        ("dimensions", ctypes.c_int),
+        ("format", ctypes.c_void_p),
+        ("shape", ctypes.c_void_p),
+        ("strides", ctypes.c_void_p),
+        ("suboffsets", ctypes.c_void_p),
+        ("internal", ctypes.c_void_p),
+    ]
+
+
+_get_buffer = ctypes.pythonapi.PyObject_GetBuffer
+_get_buffer.argtypes = [ctypes.py_object, ctypes.POINTER(_Buffer), ctypes.c_int]
+_release_buffer = ctypes.pythonapi.PyBuffer_Release
+_release_buffer.argtypes = [ctypes.POINTER(_Buffer)]
+_release_buffer.restype = None
+_SIMPLE = 0  # PyBUF_SIMPLE: bytes that are only read
+_NOBODY = ctypes.c_uint8()  # lent for no bytes at all, as no pointer may be null
+
+
+@contextlib.contextmanager
+def _lent(source):
+    """The address and length of an object's bytes; those of a copy if it can't lend them in one piece."""
+    buffer = _Buffer()
+    try:
+        _get_buffer(source, buffer, _SIMPLE)
+    except (BufferError, TypeError):
+        source = source.tobytes() if isinstance(source, memoryview) else bytes(iter(source))
+        _get_buffer(source, buffer, _SIMPLE)
+    try:
+        yield buffer.address or ctypes.addressof(_NOBODY), buffer.length
+    finally:
+        _release_buffer(buffer)
 
 
 def _declare(name, given, told, placed=True):
@@ -241,6 +301,11 @@ _ilbm_view_mode = _declare("ilbm_view_mode", _PICTURE, [_LONG] + _ORIGIN)
 _ilbm_palette = _declare("ilbm_palette", _PICTURE, _ORIGIN + [_SIZE] * 2)
 _ilbm_line = _declare("ilbm_line", _PICTURE + [_SIZE] + _BYTES, [_SIZE])
 _ilbm_frame = _declare("ilbm_frame", _PICTURE + _BYTES, [_SIZE])
+_ilbm_pictures = _declare("ilbm_pictures", _BYTES + [ctypes.POINTER(_SIZE), _SIZE], [_SIZE])
+_ilbm_bmhd = _declare("ilbm_bmhd", _BYTES, _HEADER, placed=False)
+_LAYOUT = [_BYTE] * 3  # planes, masking, compression
+_ilbm_body_line = _declare("ilbm_body_line", _BYTES + [_WORD] + _LAYOUT + [_SIZE] + _BYTES, [_SIZE])
+_ilbm_body_frame = _declare("ilbm_body_frame", _BYTES + [_WORD] * 2 + _LAYOUT + _BYTES, [_SIZE])
 _byterun_pack = _declare("byterun_pack", _BYTES * 2, [_SIZE], placed=False)
 _FIELDS = _HEADER[:7] + _HEADER[8:]  # without pad1
 _ilbm_write = _declare("ilbm_write", _FIELDS + _BYTES * 3, [_SIZE], placed=False)
@@ -248,8 +313,8 @@ _ilbm_write = _declare("ilbm_write", _FIELDS + _BYTES * 3, [_SIZE], placed=False
 
 def check(file):
     """Accepts the bytes of a file, or raises Refused with one of 1 to 12."""
-    file = bytes(file)
-    return Accepted(*_iff_check(file, len(file)))
+    with _lent(file) as lent:
+        return Accepted(*_iff_check(*lent))
 
 
 def _record(level, kind, name, place, size):
@@ -258,45 +323,45 @@ def _record(level, kind, name, place, size):
 
 def record(file, number):
     """The chunk with this number; Refused with 14 if there is none."""
-    file = bytes(file)
-    return _record(*_iff_record(file, len(file), number))
+    with _lent(file) as lent:
+        return _record(*_iff_record(*lent, number))
 
 
 def records(file):
     """All chunks in file order, in time in proportion to the file."""
-    file = bytes(file)
-    room = check(file).chunks
-    columns = [(kind * room)() for kind in _COLUMNS]
-    _iff_records(file, len(file), *[part for column in columns for part in (column, room)])
+    with _lent(file) as lent:
+        room = Accepted(*_iff_check(*lent)).chunks
+        columns = [(kind * room)() for kind in _COLUMNS]
+        _iff_records(*lent, *[part for column in columns for part in (column, room)])
     _numbers, *fields = columns
     return [_record(*told) for told in zip(*fields)]
 
 
 def data(file, number):
     """The data of a local chunk or filler; Refused with 14 or 15."""
-    file = bytes(file)
-    start, stop = _iff_data(file, len(file), number)
-    return file[start:stop]
+    with _lent(file) as (address, length):
+        start, stop = _iff_data(address, length, number)
+        return ctypes.string_at(address + start, stop - start)
 
 
 def clean_copy(file):
     """The file without trailing bytes and with every pad byte 0."""
-    file = bytes(file)
-    room = ctypes.create_string_buffer(len(file) or 1)
-    (length,) = _iff_clean_copy(file, len(file), room, len(file))
-    return room.raw[:length]
+    with _lent(file) as (address, length):
+        room = ctypes.create_string_buffer(length or 1)
+        (made,) = _iff_clean_copy(address, length, room, length)
+    return room.raw[:made]
 
 
 def count_pictures(file):
     """How many FORMs of type ILBM the file has."""
-    file = bytes(file)
-    (pictures,) = _iff_count_pictures(file, len(file))
+    with _lent(file) as lent:
+        (pictures,) = _iff_count_pictures(*lent)
     return pictures
 
 
 def _property(call, make, file, picture):
-    file = bytes(file)
-    *fields, origin, shared = call(file, len(file), picture)
+    with _lent(file) as lent:
+        *fields, origin, shared = call(*lent, picture)
     return Property(make(*fields), Origin(origin), shared)
 
 
@@ -334,46 +399,272 @@ def palette(file, picture, default=b""):
     >>> palette(file, 39).value[3:6].hex()
     'ff0000'
     """
-    file = bytes(file)
-    origin, shared, start, stop = _ilbm_palette(file, len(file), picture)
-    value = file[start:stop] if origin else bytes(default)
+    with _lent(file) as (address, length):
+        origin, shared, start, stop = _ilbm_palette(address, length, picture)
+        value = ctypes.string_at(address + start, stop - start) if origin else bytes(default)
     return Property(value, Origin(origin), shared)
 
 
 def scan_line(file, picture, start=0):
     """The colour numbers of a scan line, and the next line's place in the BODY."""
-    file = bytes(file)
-    width = header(file, picture).value.width
-    row = ctypes.create_string_buffer(width or 1)
-    (following,) = _ilbm_line(file, len(file), picture, start, row, width)
+    with _lent(file) as lent:
+        width = Header(*_ilbm_header(*lent, picture)[:-2]).width
+        row = ctypes.create_string_buffer(width or 1)
+        (following,) = _ilbm_line(*lent, picture, start, row, width)
     return row.raw[:width], following
 
 
 def frame(file, picture):
     """The colour numbers of all scan lines."""
-    file = bytes(file)
-    told = header(file, picture).value
-    size = told.width * told.height
-    room = ctypes.create_string_buffer(size or 1)
-    _ilbm_frame(file, len(file), picture, room, size)
+    with _lent(file) as lent:
+        fields = Header(*_ilbm_header(*lent, picture)[:-2])
+        size = fields.width * fields.height
+        room = ctypes.create_string_buffer(size or 1)
+        _ilbm_frame(*lent, picture, room, size)
     return room.raw[:size]
+
+
+def bmhd(data):
+    """The fields of a BMHD by its bytes alone; Refused with 23 unless it has 20.
+
+    >>> bmhd(bytes.fromhex("0003 0001 0000 0000 02000100 0000 0a0b 0140 00c8"))[:2]
+    (3, 1)
+    """
+    with _lent(data) as lent:
+        return Header(*_ilbm_bmhd(*lent))
+
+
+def _layout(fields):
+    return fields.planes, fields.masking, fields.compression
+
+
+def body_line(body, fields, start=0):
+    """The colour numbers of a scan line of any bytes as a BODY, and the next line's place in it.
+
+    Refused with 41, 42, 43 or 24 for the fields, 29 for a start beyond the BODY's end, 27
+    and 26 with the place.
+
+    >>> row, following = body_line(bytes.fromhex("a0006000"), Header(width=3, planes=2))
+    >>> list(row), following
+    ([1, 2, 3], 4)
+    """
+    row = ctypes.create_string_buffer(fields.width or 1)
+    with _lent(body) as lent:
+        (following,) = _ilbm_body_line(*lent, fields.width, *_layout(fields), start, row, fields.width)
+    return row.raw[: fields.width], following
+
+
+def body_frame(body, fields):
+    """The colour numbers of all scan lines of any bytes as a BODY; Refused as body_line, but without 29.
+
+    >>> body_frame(b"\\xff\\xa0\\xff", Header(width=3, height=2, planes=1, compression=1))
+    Traceback (most recent call last):
+        ...
+    florinhado.Refused: refusal 26 at 2: the BODY ends before the row is full
+    """
+    size = fields.width * fields.height
+    room = ctypes.create_string_buffer(size or 1)
+    with _lent(body) as lent:
+        _ilbm_body_frame(*lent, fields.width, fields.height, *_layout(fields), room, size)
+    return room.raw[:size]
+
+
+_FEW = 32  # places of the table that is lent first
+_ROW = 30  # numbers of a picture
+_SHORTEST = 12  # bytes of a picture
+_PIXELS_OF_A_BYTE = 512  # at most: a repeat of 128 bytes has two
+
+
+def _table(file, places):
+    """The table of pictures and how many there are; Refused with 13 for too few places."""
+    table = (_SIZE * (_ROW * places))()
+    with _lent(file) as lent:
+        (pictures,) = _ilbm_pictures(*lent, table, len(table))
+    return table, pictures
+
+
+def open(source):
+    """The file at a path, or of any bytes, as a File; Refused with 1 to 12, OSError for a path.
+
+    A file at a path is mapped into memory. Nothing else may shorten it while it is open.
+
+    >>> open("../../samples/form.iff").picture(0).refusal.number
+    21
+    >>> open(bytearray(b"FORM"))
+    Traceback (most recent call last):
+        ...
+    florinhado.Refused: refusal 4 at 0: fewer than 8 bytes left for a chunk
+    >>> open("no such file")
+    Traceback (most recent call last):
+        ...
+    FileNotFoundError: [Errno 2] No such file or directory: 'no such file'
+    """
+    return File(_mapped(source) if isinstance(source, (str, os.PathLike)) else source)
+
+
+def _mapped(path):
+    with io.open(path, "rb") as stream:
+        if os.fstat(stream.fileno()).st_size == 0:  # empty, or no file on a disk
+            return stream.read()
+        return mmap.mmap(stream.fileno(), 0, access=mmap.ACCESS_READ)
+
+
+class File:
+    """An accepted file with its pictures, which was checked when it was opened.
+
+    It holds the bytes that it was opened with until it is closed.
+
+    >>> with open("../../samples/headers.iff") as file:
+    ...     [picture.refusal and picture.refusal.number for picture in file.pictures()]
+    [41, 42, 43, 24, 41, None]
+    """
+
+    def __init__(self, source):
+        view = memoryview(source)
+        self._view = view.cast("B") if view.c_contiguous else memoryview(bytes(view))
+        places = min(_FEW, len(self._view) // _SHORTEST)
+        try:
+            self._table, self._pictures = _table(self._view, places)
+            return
+        except Refused as refused:
+            if refused.number != 13:
+                raise
+        self._table, self._pictures = _table(self._view, count_pictures(self._view))
+
+    def close(self):
+        """Gives the bytes back; after that no picture can be read."""
+        self._view.release()
+
+    def __enter__(self):
+        return self
+
+    def __exit__(self, *_error):
+        self.close()
+
+    def chunks(self):
+        """The records of all chunks in file order, in a walk of their own.
+
+        >>> [told.name for told in open("../../samples/picture.iff").chunks()]
+        [b'ILBM', b'BMHD', b'CMAP', b'BODY']
+        """
+        return records(self._view)
+
+    def pictures(self):
+        """All pictures in file order: the FORMs of type ILBM at any depth."""
+        return [self.picture(number) for number in range(self._pictures)]
+
+    def picture(self, number):
+        """The picture with this number, counted from 0; IndexError if there is none."""
+        start = _ROW * range(self._pictures)[number]
+        return Picture(self._view, self._table[start : start + _ROW])
+
+
+class Picture:
+    """One picture of a File. Its methods raise Refused as the functions of the same names do.
+
+    >>> picture = open("../../samples/headers.iff").picture(5)
+    >>> picture.place, picture.form_type, picture.refusal
+    (292, b'ILBM', None)
+    >>> list(picture.frame()), [list(line) for line in picture.lines()]
+    ([1, 2, 3, 2, 1, 0], [[1, 2, 3], [2, 1, 0]])
+    """
+
+    def __init__(self, view, numbers):
+        self._view = view
+        self._answer, self.place, kind = numbers[:3]
+        self.form_type = kind.to_bytes(4, "big")
+        self._properties = [numbers[n : n + 4] for n in range(3, 27, 4)]
+        self._body = numbers[27:]
+
+    @property
+    def refusal(self):
+        """What every method is refused with, or None."""
+        return Refused(self._answer, 0) if self._answer else None
+
+    def _property(self, number, make):
+        """The property with this number in the table, of its data or None."""
+        if self._answer:
+            raise self.refusal
+        origin, shared, start, stop = self._properties[number]
+        value = make(self._view[start:stop] if origin else None)
+        return Property(value, Origin(origin), shared)
+
+    def _unpacked(self, number, make, layout):
+        """The same of fields that are all 0 if it is absent."""
+        zeros = bytes(struct.calcsize(layout))
+        return self._property(number, lambda data: make(*struct.unpack(layout, data or zeros)))
+
+    def header(self):
+        """The BMHD that counts."""
+        return self._property(0, bmhd)
+
+    def palette(self, default=b""):
+        """The CMAP that counts, or the default.
+
+        >>> open("../../samples/two_levels.iff").picture(39).palette().shared
+        84
+        """
+        return self._property(1, lambda data: bytes(default if data is None else data))
+
+    def grab(self):
+        """The GRAB that counts."""
+        return self._unpacked(2, HotSpot, ">hh")
+
+    def destination(self):
+        """The DEST that counts."""
+        return self._unpacked(3, Destination, ">BBHHH")
+
+    def sprite(self):
+        """The sprite precedence that counts."""
+        return self._unpacked(4, int, ">H")
+
+    def view_mode(self):
+        """The view modes that count."""
+        return self._unpacked(5, int, ">I")
+
+    def body(self):
+        """The data of the BODY, as a part of the file; Refused with 25 if there is none."""
+        there, start, stop = self._body
+        if self._answer or not there:
+            raise self.refusal or Refused(25, 0)
+        return self._view[start:stop]
+
+    def scan_line(self, start=0):
+        """The colour numbers of a scan line, and the next line's place in the BODY."""
+        fields = self.header().value
+        return body_line(self.body(), fields, start)
+
+    def lines(self):
+        """The colour numbers of the scan lines in turn, up to the first that is refused."""
+        fields, body = self.header().value, self.body()
+        start = 0
+        for _ in range(fields.height):
+            row, start = body_line(body, fields, start)
+            yield row
+
+    def frame(self):
+        """The colour numbers of all scan lines."""
+        fields, body = self.header().value, self.body()
+        if fields.width * fields.height // _PIXELS_OF_A_BYTE > len(body):
+            return b"".join(self.lines())  # refused, and no room is made for it
+        return body_frame(body, fields)
 
 
 def pack(row):
     """The row packed by ByteRun1; Refused with 31 unless it has 1 to 8,192 bytes."""
-    row = bytes(row)
-    room = ctypes.create_string_buffer(len(row) + (len(row) + 127) // 128 or 1)
-    (length,) = _byterun_pack(row, len(row), room, len(room))
-    return room.raw[:length]
+    with _lent(row) as (address, length):
+        room = ctypes.create_string_buffer(length + (length + 127) // 128 or 1)
+        (made,) = _byterun_pack(address, length, room, len(room))
+    return room.raw[:made]
 
 
 def write(fields, palette, frame):
     """A file with one picture of these fields (pad1 is not looked at), palette and
     colour numbers, line by line; Refused with 33, 34 or 35."""
-    palette, frame = bytes(palette), bytes(frame)
     row = (fields.width + 15) // 16 * 2
     body = fields.height * fields.planes * (row + (row + 127) // 128)
     room = ctypes.create_string_buffer(min(825 + body, 16777216))
     numbers = fields[:7] + fields[8:]
-    (length,) = _ilbm_write(*numbers, palette, len(palette), frame, len(frame), room, len(room))
+    with _lent(palette) as colours, _lent(frame) as pixels:
+        (length,) = _ilbm_write(*numbers, *colours, *pixels, room, len(room))
     return room.raw[:length]

@@ -3,10 +3,11 @@
 
 use crate::answers::Answers;
 use crate::asked::Asked;
-use crate::borrowed::refused;
+use crate::borrowed::{refused, same};
 use crate::later::{version_refused, Later};
+use crate::picture_table::{rows, Row};
 use crate::{dump, Census, Outcome};
-use florinhado::Accepted;
+use florinhado::{Accepted, File};
 use second::generate::sound_file;
 use second::random::Random;
 use std::fmt::Debug;
@@ -46,6 +47,8 @@ fn compare_pictures(before: &[u8], later: &Later, asked: &[Asked], census: &mut 
     let pictures = florinhado::count_pictures(before);
     let referee = second::count_pictures(&later.file).map_err(refused);
     agree("pictures", florinhado::count_pictures(&later.file), pictures, referee)?;
+    compare_tables(before, later, census)?;
+    let opened = File::new(&later.file);
     for asked in asked {
         let old = Answers::of_library(before, asked);
         let new = Answers::of_library(&later.file, asked);
@@ -56,10 +59,27 @@ fn compare_pictures(before: &[u8], later: &Later, asked: &[Asked], census: &mut 
         census.add(u64::from(apart), "pictures", "with PROPs moved by different lengths");
         let wanted = old.moved(&|place| later.moved(place));
         let referee = Answers::of_second(&later.file, asked);
+        let by_table = Answers::of_opened(&opened, asked);
+        agree(&format!("picture {}, file opened", asked.picture), &by_table, &wanted, &referee)?;
         agree(&format!("picture {}", asked.picture), new, wanted, referee)?;
     }
     census.add(asked.len() as u64, "pictures", "asked for");
     Ok(())
+}
+
+/// The table has the same answers, types and origins as before, and every place moved; what lies there is the same.
+fn compare_tables(before: &[u8], later: &Later, census: &mut Census) -> Outcome {
+    let place = |place| later.moved(place);
+    let old = rows(before).map_err(|refused| refused.to_string())?;
+    let wanted: Vec<Row> = old.iter().map(|row| row.moved(&place)).collect();
+    let new = rows(&later.file);
+    for (old, new) in old.iter().zip(new.iter().flatten()) {
+        let bytes = |file: &[u8], row: &Row| row.parts().map(|part| file[part].to_vec());
+        same("data of a row", bytes(&later.file, new), bytes(before, old))?;
+        census.add(1, "rows of the table", "in all");
+        census.add(u64::from(old != new), "rows of the table", "with a place moved");
+    }
+    agree("table", new, Ok(wanted), Row::of_second(&later.file))
 }
 
 /// Every call gives 3 at the first of these places.
@@ -69,9 +89,12 @@ fn compare_renamed(later: &Later, places: &[usize], asked: &[Asked]) -> Outcome 
     agree("check", florinhado::check(file), Err(refusal), check_by_second(file))?;
     let referee = second::count_pictures(file).map_err(refused);
     agree("pictures", florinhado::count_pictures(file), Err(refusal), referee)?;
+    agree("table", rows(file), Err(refusal), Row::of_second(file))?;
+    let opened = File::new(file);
     asked.iter().try_for_each(|asked| {
         let wanted = Answers::all_refused(refusal, asked);
         let referee = Answers::of_second(file, asked);
+        agree("file opened, renamed", &Answers::of_opened(&opened, asked), &wanted, &referee)?;
         let told = Answers::of_library(file, asked);
         agree(&format!("picture {}, renamed", asked.picture), told, wanted, referee)
     })

@@ -5,8 +5,9 @@ use crate::borrowed::refused;
 use crate::dest::destination;
 use crate::grab::hot_spot;
 use crate::header::header;
+use crate::picture_table::data_moved;
 use crate::property::{origin, property};
-use florinhado::{Destination, Header, HotSpot, Origin, Property, Refused};
+use florinhado::{Destination, File, Header, HotSpot, Origin, Picture, Property, Refused};
 
 /// A property with its origin, or the refusal.
 type Told<T> = Result<Property<T>, Refused>;
@@ -43,13 +44,45 @@ impl Answers {
             (florinhado::frame(file, picture, &mut frame), frame)
         };
         let palette = florinhado::palette(file, picture, &asked.default);
-        let bytes = |told: Property<&[u8]>| Property { value: told.value.to_vec(), origin: told.origin };
         Answers {
             header: florinhado::header(file, picture),
             grab: florinhado::grab(file, picture),
             destination: florinhado::destination(file, picture),
             sprite: florinhado::sprite(file, picture),
             view_mode: florinhado::view_mode(file, picture),
+            extent: palette.ok().and_then(|told| extent(file, &told)),
+            palette: palette.map(bytes),
+            lines: asked.lines.iter().map(line).collect(),
+            frames: asked.frames.iter().map(frame).collect(),
+        }
+    }
+
+    /// By the table of pictures, the fields of a BMHD and the rows of a BODY: all that an opened file tells.
+    pub fn of_opened(opened: &Result<File, Refused>, asked: &Asked) -> Answers {
+        let no_such = Refused { number: 20, place: 0 };
+        match opened.as_ref().map(|file| (file.bytes(), file.picture(asked.picture))) {
+            Ok((file, Some(picture))) => Answers::of_picture(file, &picture, asked),
+            Ok((_, None)) => Answers::all_refused(no_such, asked),
+            Err(refused) => Answers::all_refused(*refused, asked),
+        }
+    }
+
+    fn of_picture(file: &[u8], picture: &Picture, asked: &Asked) -> Answers {
+        let line = |(start, row): &(usize, Vec<u8>)| {
+            let mut row = row.clone();
+            (picture.line_into(*start, &mut row), row)
+        };
+        let frame = |frame: &Vec<u8>| {
+            let mut frame = frame.clone();
+            (picture.frame_into(&mut frame), frame)
+        };
+        let palette = picture.palette(&asked.default);
+        Answers {
+            header: picture.header(),
+            grab: picture.grab(),
+            destination: picture.destination(),
+            sprite: picture.sprite(),
+            view_mode: picture.view_mode(),
             extent: palette.ok().and_then(|told| extent(file, &told)),
             palette: palette.map(bytes),
             lines: asked.lines.iter().map(line).collect(),
@@ -114,7 +147,10 @@ impl Answers {
             sprite: moved(self.sprite, place),
             view_mode: moved(self.view_mode, place),
             palette: moved(self.palette, place),
-            extent: self.extent.map(|(from, to)| (place(from - 8) + 8, place(from - 8) + 8 + to - from)),
+            extent: self
+                .extent
+                .map(|(from, to)| data_moved(from..to, place))
+                .map(|part| (part.start, part.end)),
             ..self
         }
     }
@@ -133,10 +169,25 @@ impl Answers {
         origins.into_iter().filter_map(place).collect()
     }
 
+    /// The first frame that was asked for, or what it is refused with.
+    pub fn frame(&self) -> Result<&[u8], Refused> {
+        let (told, bytes) = &self.frames[0];
+        told.map(|_| &bytes[..])
+    }
+
+    /// What the picture itself is refused with, or 0.
+    pub fn number(&self) -> usize {
+        self.header.map_or_else(|refused| refused.number, |_| 0)
+    }
+
     /// Whether a frame is shown.
     pub fn is_shown(&self) -> bool {
         self.frames.iter().any(|(told, _)| told.is_ok())
     }
+}
+
+fn bytes(told: Property<&[u8]>) -> Property<Vec<u8>> {
+    Property { value: told.value.to_vec(), origin: told.origin }
 }
 
 /// Where the palette's bytes lie in the file, unless they are the default's.

@@ -1,6 +1,10 @@
 //! What is asked of a picture beside its number.
 
 use second::random::Random;
+use second::{Properties, Refused};
+
+/// A frame of more bytes is only asked for with a wrong length.
+const GREATEST_FRAME: usize = 1 << 26;
 
 /// The inputs of every call on one picture.
 pub struct Asked {
@@ -10,21 +14,29 @@ pub struct Asked {
     /// The start places of scan lines with the rows lent for them.
     pub lines: Vec<(usize, Vec<u8>)>,
     pub frames: Vec<Vec<u8>>,
+    /// Whether the first of them has the right length.
+    pub is_whole: bool,
 }
 
 impl Asked {
     /// Right and wrong inputs for a picture of this file, which may have none of this number.
     pub fn new(random: &mut Random, file: &[u8], picture: usize) -> Asked {
-        let told = second::properties(file, picture);
+        Asked::of(random, file, picture, &second::properties(file, picture))
+    }
+
+    /// The same for a picture of which the second reader told this.
+    pub fn of(random: &mut Random, file: &[u8], picture: usize, told: &Result<Properties, Refused>) -> Asked {
         let fields = told.as_ref().map(|told| (told.header.width, told.header.height));
         let (width, height) = fields.map_or((5, 1), |(w, h)| (usize::from(w), usize::from(h)));
-        let body = told.ok().and_then(|told| told.body).map_or(0, |range| range.len());
+        let is_whole = width * height <= GREATEST_FRAME;
+        let frame = if is_whole { width * height } else { 1 };
         let count = random.below(3) * 3;
         Asked {
             picture,
             default: random.bytes(count),
-            lines: lines(random, file, picture, width, body),
-            frames: lengths(random, width * height).map(|length| random.bytes(length)).to_vec(),
+            lines: lines(random, file, told, width),
+            frames: lengths(random, frame).map(|length| random.bytes(length)).to_vec(),
+            is_whole,
         }
     }
 
@@ -40,11 +52,13 @@ impl Asked {
 fn lines(
     random: &mut Random,
     file: &[u8],
-    picture: usize,
+    told: &Result<Properties, Refused>,
     width: usize,
-    body: usize,
 ) -> Vec<(usize, Vec<u8>)> {
-    let second_line = second::scan_line(file, picture, 0, width).map_or(0, |line| line.next);
+    let found = told.as_ref().ok().and_then(|told| Some((told.header.layout(), told.body.clone()?)));
+    let body = found.as_ref().map_or(0, |(_, body)| body.len());
+    let line = found.map(|(layout, body)| second::body_line(&file[body], &layout, 0, width));
+    let second_line = line.and_then(Result::ok).map_or(0, |line| line.next);
     let starts = [0, second_line, random.below(body + 4)];
     let mut asked = starts.map(|start| (start, random.bytes(width))).to_vec();
     let [_, wrong] = lengths(random, width);

@@ -1,7 +1,8 @@
 //! Pictures with damaged BODYs, for the numbers and places of 26 and 27.
 
+use crate::borrowed::same;
 use crate::chunks::{chunk, group, Fields};
-use crate::{frame, line};
+use crate::{body_frame, body_line, frame, line};
 use florinhado::Refused;
 use second::random::Random;
 use std::collections::BTreeSet;
@@ -9,9 +10,8 @@ use std::collections::BTreeSet;
 /// A FORM ILBM of BMHD and BODY.
 pub struct Picture {
     pub file: Vec<u8>,
-    width: usize,
-    height: usize,
-    body: usize,
+    fields: Fields,
+    body: Vec<u8>,
 }
 
 /// How often a number was told, and with which places.
@@ -137,19 +137,30 @@ pub fn picture(random: &mut Random) -> Picture {
     let rows = height * usize::from(fields.planes + u8::from(fields.masking == 1));
     let body = body(random, fields.compression, rows, width.div_ceil(16) * 2);
     let members = [header, chunk(b"BODY", &body)].concat();
-    Picture { file: group(b"FORM", b"ILBM", &members), width, height, body: body.len() }
+    Picture { file: group(b"FORM", b"ILBM", &members), fields, body }
 }
 
 impl Picture {
     /// Compares the frame, and lines from the start, from any place, from the
-    /// frame's fault, from the end and beyond it.
+    /// frame's fault, from the end and beyond it; each of the file and of the
+    /// BODY alone.
     pub fn compare(&self, random: &mut Random, faults: &mut Faults) -> Result<(), String> {
-        let told = frame::ask(&self.file, 0, self.width * self.height, random)?;
+        let (width, layout) = (usize::from(self.fields.width), self.fields.layout());
+        let size = width * usize::from(self.fields.height);
+        let told = frame::ask(&self.file, 0, size, random)?;
+        same(
+            "frame of the BODY",
+            body_frame::ask(&self.body, &layout, self.fields.height, size, random)?,
+            told,
+        )?;
         if let Some(fault) = faults.of(told) {
             fault.frames += 1;
         }
-        for start in [0, random.below(self.body + 1), told.place, self.body, self.body + 1] {
-            let told = line::ask(&self.file, 0, start, self.width, random);
+        let end = self.body.len();
+        for start in [0, random.below(end + 1), told.place, end, end + 1] {
+            let alone = body_line::ask(&self.body, &layout, start, width, random);
+            let told = line::ask(&self.file, 0, start, width, random)
+                .and_then(|told| same("line of the BODY", alone?, told).map(|()| told));
             let told = told.map_err(|text| format!("line from {start}: {text}"))?;
             if let Some(fault) = faults.of(told) {
                 fault.lines += 1;

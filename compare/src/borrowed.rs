@@ -27,6 +27,13 @@ impl Buffer {
         Buffer { before: bytes.clone(), bytes }
     }
 
+    /// A buffer of these bytes, for a call that must not change it.
+    pub fn holding(random: &mut Random, bytes: &[u8]) -> Buffer {
+        let mut buffer = Buffer::new(random, bytes.len());
+        buffer.slice().copy_from_slice(bytes);
+        buffer
+    }
+
     pub fn slice(&mut self) -> &mut [u8] {
         let end = self.bytes.len() - MARGIN;
         &mut self.bytes[MARGIN..end]
@@ -41,6 +48,35 @@ impl Buffer {
         };
         let place = n as isize - MARGIN as isize;
         same(&format!("buffer at {place}"), self.bytes[n], self.before[n])
+    }
+}
+
+/// Elements on either side of a column that belong to nobody.
+const ELEMENTS: usize = 3;
+
+/// A column of a table among other elements, all with the same value.
+pub struct Column<T> {
+    elements: Vec<T>,
+    before: T,
+}
+
+impl<T: Copy + PartialEq> Column<T> {
+    pub fn new(before: T, length: usize) -> Column<T> {
+        Column { elements: vec![before; length + 2 * ELEMENTS], before }
+    }
+
+    pub fn slice(&mut self) -> &mut [T] {
+        let end = self.elements.len() - ELEMENTS;
+        &mut self.elements[ELEMENTS..end]
+    }
+
+    /// Fails unless the column begins with so many wanted elements and no other one is changed.
+    pub fn compare(&self, what: &str, count: usize, wanted: impl Fn(usize) -> T) -> Outcome {
+        let wanted = |n: usize| n.checked_sub(ELEMENTS).filter(|n| *n < count).map_or(self.before, &wanted);
+        match (0..self.elements.len()).find(|n| self.elements[*n] != wanted(*n)) {
+            Some(n) => Err(format!("{what} differ at {}", n as isize - ELEMENTS as isize)),
+            None => Ok(()),
+        }
     }
 }
 

@@ -1,5 +1,6 @@
 //! The calls that are compared.
 
+use crate::{bmhd, body_frame, body_line, picture_table};
 use crate::{check, copy, data, pictures, reader, record, table, Outcome, Subject, Tally};
 use crate::{dest, frame, grab, header, line, pack, palette, sprite, view_mode, write};
 use second::random::Random;
@@ -32,6 +33,10 @@ pub const CALLS: &[Call] = &[
     palette::CALL,
     line::CALL,
     frame::CALL,
+    picture_table::CALL,
+    bmhd::CALL,
+    body_line::CALL,
+    body_frame::CALL,
     pack::CALL,
     write::CALL,
 ];

@@ -1,5 +1,7 @@
 //! Chunks as bytes.
 
+use second::Layout;
+
 /// A chunk's name and size.
 pub fn header(name: &[u8; 4], size: usize) -> [u8; 8] {
     let size = (size as u32).to_be_bytes();
@@ -27,6 +29,12 @@ pub struct Fields {
 }
 
 impl Fields {
+    /// Those of a scan line, for the second reader.
+    pub fn layout(&self) -> Layout {
+        let Fields { width, planes, masking, compression, .. } = *self;
+        Layout { width, planes, masking, compression }
+    }
+
     /// A BMHD with these fields and 0 for the others.
     pub fn bmhd(&self) -> Vec<u8> {
         self.bmhd_with([0; 20])

@@ -1,7 +1,7 @@
 //! ilbm_frame.
 
 use crate::borrowed::{numbers, refused, same, Buffer};
-use crate::numbers::{PICTURE, ROWS, STRUCTURE};
+use crate::numbers::{HEADER, NO_BODY, PICTURE, ROWS, STRUCTURE};
 use crate::{Call, Outcome, Subject, Tally};
 use florinhado::{calls, Refused};
 use second::generate::query;
@@ -9,7 +9,8 @@ use second::random::Random;
 
 const NAME: &str = "ilbm_frame";
 
-pub const CALL: Call = Call { name: NAME, numbers: &[STRUCTURE, PICTURE, ROWS], compare, run };
+pub const CALL: Call =
+    Call { name: NAME, numbers: &[STRUCTURE, PICTURE, HEADER, NO_BODY, ROWS], compare, run };
 
 /// The file may have no such picture.
 fn run(file: &[u8]) {

@@ -48,7 +48,7 @@ fn compare(subject: &Subject, random: &mut Random, tally: &mut Tally) -> Outcome
     })
 }
 
-fn any_header(random: &mut Random) -> Header {
+pub fn any_header(random: &mut Random) -> Header {
     Header {
         width: random.word() as u16,
         height: random.word() as u16,

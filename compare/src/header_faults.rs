@@ -6,7 +6,7 @@ use crate::asked::Asked;
 use crate::borrowed::same;
 use crate::chunks::{chunk, group, Fields};
 use crate::{dump, Outcome};
-use florinhado::Refused;
+use florinhado::{File, Refused};
 use second::random::Random;
 use std::collections::BTreeMap;
 
@@ -82,6 +82,7 @@ fn compare_calls(random: &mut Random, file: &[u8], first: Option<&u32>) -> Outco
     let asked = Asked::new(random, file, 0);
     let ours = Answers::of_library(file, &asked);
     same("calls on the picture", &ours, &Answers::of_second(file, &asked))?;
+    same("the opened file", &Answers::of_opened(&File::new(file), &asked), &ours)?;
     let Some(number) = first else { return Ok(()) };
     let refused = Refused { number: *number as usize, place: 0 };
     same("calls on the picture", ours, Answers::all_refused(refused, &asked))

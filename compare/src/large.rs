@@ -12,6 +12,9 @@ pub const GROUPS: usize = (LONGEST_FILE - 12) / 12;
 /// Levels that groups may have.
 pub const LEVELS: usize = 16;
 
+/// The fields of the smallest picture.
+const ONE_PIXEL: Fields = Fields { width: 1, height: 1, planes: 1, masking: 0, compression: 0 };
+
 /// A FORM of so many chunks without data.
 pub fn leaves(count: usize) -> Vec<u8> {
     group(b"FORM", b"TEST", &header(b"DATA", 0).repeat(count))
@@ -47,15 +50,28 @@ pub fn nested(levels: usize, members: &[u8]) -> Vec<u8> {
 /// PROP ILBM of so many chunks. The outermost PROP alone has the BMHD, and each
 /// a CMAP before the others.
 pub fn shared_from_afar(chunks: usize) -> Vec<u8> {
-    let picture = group(b"FORM", b"ILBM", &chunk(b"BODY", &[0x80, 0]));
-    let one_pixel = Fields { width: 1, height: 1, planes: 1, masking: 0, compression: 0 };
-    (1..LEVELS).rev().fold(picture, |inner, level| {
-        let bmhd = if level == 1 { one_pixel.bmhd() } else { Vec::new() };
+    (1..LEVELS).rev().fold(picture_of_one_pixel(), |inner, level| {
+        let bmhd = if level == 1 { ONE_PIXEL.bmhd() } else { Vec::new() };
         let map = chunk(b"CMAP", &[level as u8; 3]);
         let others = header(b"DATA", 0).repeat(chunks);
         let prop = group(b"PROP", b"ILBM", &[bmhd, map, others].concat());
         group(b"LIST", b"JJJJ", &[prop, inner].concat())
     })
+}
+
+/// A LIST of so many pictures of one pixel that share the BMHD and CMAP of a PROP with so many other chunks.
+pub fn pictures_sharing(pictures: usize, chunks: usize) -> Vec<u8> {
+    let others = header(b"DATA", 0).repeat(chunks);
+    let prop = group(b"PROP", b"ILBM", &[ONE_PIXEL.bmhd(), chunk(b"CMAP", &[1; 3]), others].concat());
+    group(b"LIST", b"ILBM", &[prop, picture_of_one_pixel().repeat(pictures)].concat())
+}
+
+/// As many pictures as fit under such a PROP without other chunks.
+pub const SHARING: usize = (LONGEST_FILE - 12 - 12 - 28 - 12) / 22;
+
+/// A picture without a header.
+fn picture_of_one_pixel() -> Vec<u8> {
+    group(b"FORM", b"ILBM", &chunk(b"BODY", &[0x80, 0]))
 }
 
 /// The file with as many bytes after its end as a file may have at most.

@@ -1,8 +1,8 @@
 //! A file with what the second reader tells of it.
 
-use crate::{Outcome, Tally, CALLS};
+use crate::{both_ways, Outcome, Tally, CALLS};
 use second::random::Random;
-use second::{Properties, Record, Refused};
+use second::{PictureRow, Properties, Record, Refused};
 
 /// Bytes on either side of the file that belong to nobody.
 const MARGIN: usize = 24;
@@ -13,6 +13,8 @@ pub struct Subject {
     /// The numbers of records that are asked for.
     pub asked: Vec<usize>,
     pub records: Result<Vec<Record>, Refused>,
+    /// The table of pictures.
+    pub rows: Result<Vec<PictureRow>, Refused>,
     /// The pictures that are asked for, and what the second reader tells of them.
     pub pictures: Vec<(usize, Result<Properties, Refused>)>,
 }
@@ -37,10 +39,12 @@ impl Subject {
         bytes.extend(random.bytes(MARGIN - 8));
         let records = second::records(file);
         let count = records.as_ref().map_or(1, Vec::len);
-        let mut pictures = asked(second::count_pictures(file).unwrap_or(0));
+        let rows = second::picture_rows(file);
+        let mut pictures = asked(rows.as_ref().map_or(0, Vec::len));
         pictures.dedup();
         let told = |picture| (picture, second::properties(file, picture));
-        Subject { bytes, asked: asked(count), records, pictures: pictures.into_iter().map(told).collect() }
+        let pictures = pictures.into_iter().map(told).collect();
+        Subject { bytes, asked: asked(count), records, rows, pictures }
     }
 
     pub fn file(&self) -> &[u8] {
@@ -53,7 +57,7 @@ impl Subject {
         records.get(number).copied().ok_or(Refused { number: 14, place: 0 })
     }
 
-    /// Makes every call and sees that none changed the file.
+    /// Makes every call, asks for every picture both ways, and sees that none changed the file.
     pub fn compare(&self, random: &mut Random, tally: &mut Tally) -> Outcome {
         let before = self.bytes.clone();
         for call in CALLS {
@@ -62,6 +66,6 @@ impl Subject {
                 return Err(format!("{}: the file was changed", call.name));
             }
         }
-        Ok(())
+        both_ways::compare(self, random, tally).map_err(|text| format!("{}: {text}", both_ways::WHAT))
     }
 }

@@ -1,8 +1,8 @@
 //! iff_records, the table of all records by columns.
 
-use crate::borrowed::{numbers, refused, same};
+use crate::borrowed::{numbers, refused, same, Column};
 use crate::listings::{fill, Table};
-use crate::numbers::STRUCTURE;
+use crate::numbers::{PLACES, STRUCTURE};
 use crate::record::{in_library, kind_number};
 use crate::{Call, Outcome, Subject, Tally};
 use florinhado::calls;
@@ -11,7 +11,7 @@ use second::Record;
 
 const NAME: &str = "iff_records";
 
-pub const CALL: Call = Call { name: NAME, numbers: &[STRUCTURE, &[13]], compare, run };
+pub const CALL: Call = Call { name: NAME, numbers: &[STRUCTURE, PLACES], compare, run };
 
 fn run(file: &[u8]) {
     let chunks = florinhado::check(file).unwrap().chunks;
@@ -37,35 +37,6 @@ fn compare(subject: &Subject, random: &mut Random, tally: &mut Tally) -> Outcome
 /// Columns of different lengths, each with a place for every chunk.
 fn longer(random: &mut Random, count: usize) -> [usize; 6] {
     std::array::from_fn(|_| count + random.below(6))
-}
-
-/// Elements on either side of a column that belong to nobody.
-const MARGIN: usize = 3;
-
-/// A column among other elements, all with the same value.
-struct Column<T> {
-    elements: Vec<T>,
-    before: T,
-}
-
-impl<T: Copy + PartialEq> Column<T> {
-    fn new(before: T, length: usize) -> Column<T> {
-        Column { elements: vec![before; length + 2 * MARGIN], before }
-    }
-
-    fn slice(&mut self) -> &mut [T] {
-        let end = self.elements.len() - MARGIN;
-        &mut self.elements[MARGIN..end]
-    }
-
-    /// Fails unless the column begins with the field of each record and no other element is changed.
-    fn compare(&self, what: &str, records: &[Record], field: fn(&Record) -> T) -> Outcome {
-        let wanted = |n: usize| n.checked_sub(MARGIN).and_then(|n| records.get(n)).map_or(self.before, field);
-        match (0..self.elements.len()).find(|n| self.elements[*n] != wanted(*n)) {
-            Some(n) => Err(format!("{what} differ at {}", n as isize - MARGIN as isize)),
-            None => Ok(()),
-        }
-    }
 }
 
 /// A table to lend.
@@ -126,11 +97,12 @@ impl Lent {
     }
 
     fn holds(&self, records: &[Record]) -> Outcome {
-        self.numbers.compare("numbers", records, |record| record.number)?;
-        self.levels.compare("levels", records, |record| record.level)?;
-        self.kinds.compare("kinds", records, |record| kind_number(record.kind) as u8)?;
-        self.names.compare("names", records, |record| u32::from_be_bytes(record.name.0))?;
-        self.places.compare("places", records, |record| record.place)?;
-        self.sizes.compare("sizes", records, |record| record.size)
+        let count = records.len();
+        self.numbers.compare("numbers", count, |n| records[n].number)?;
+        self.levels.compare("levels", count, |n| records[n].level)?;
+        self.kinds.compare("kinds", count, |n| kind_number(records[n].kind) as u8)?;
+        self.names.compare("names", count, |n| u32::from_be_bytes(records[n].name.0))?;
+        self.places.compare("places", count, |n| records[n].place)?;
+        self.sizes.compare("sizes", count, |n| records[n].size)
     }
 }

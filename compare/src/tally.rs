@@ -1,6 +1,6 @@
 //! How often each call answered each number.
 
-use crate::{Call, CALLS};
+use crate::{both_ways, Call, CALLS};
 use std::collections::BTreeMap;
 
 #[derive(Default)]
@@ -17,14 +17,14 @@ impl Tally {
         self.answers.get(&(call, number)).copied().unwrap_or(0)
     }
 
-    /// The counts, a line for each call.
+    /// The counts, a line for each call and one for the pictures asked for both ways.
     pub fn text(&self) -> String {
         let line = |name| {
             let counts = self.answers.iter().filter(|((call, _), _)| *call == name);
             let words: Vec<String> = counts.map(|((_, number), count)| format!("{number}:{count}")).collect();
             format!("{name}: {}\n", words.join(" "))
         };
-        CALLS.iter().map(|call| line(call.name)).collect()
+        CALLS.iter().map(|call| call.name).chain([both_ways::WHAT]).map(line).collect()
     }
 
     /// Numbers that a call can answer, and answered a hundred times or less; of those that need a

@@ -1,5 +1,7 @@
 //! Fields of the fixed-size properties.
 
+use crate::answer::Refused;
+
 /// The fields of BMHD.
 #[derive(Clone, Copy, Debug, PartialEq, Eq)]
 pub struct Header {
@@ -16,6 +18,27 @@ pub struct Header {
     pub y_aspect: u8,
     pub page_width: i16,
     pub page_height: i16,
+}
+
+/// The fields of BMHD that say how a scan line lies in its BODY.
+#[derive(Clone, Copy, Debug, PartialEq, Eq)]
+pub struct Layout {
+    pub width: u16,
+    pub planes: u8,
+    pub masking: u8,
+    pub compression: u8,
+}
+
+impl Header {
+    pub fn layout(&self) -> Layout {
+        let Header { width, planes, masking, compression, .. } = *self;
+        Layout { width, planes, masking, compression }
+    }
+
+    /// No pixel or no plane.
+    pub(crate) fn is_empty(&self) -> bool {
+        self.width == 0 || self.height == 0 || self.planes == 0
+    }
 }
 
 /// The hotspot of GRAB.
@@ -56,6 +79,14 @@ impl Reader<'_> {
     pub fn u32(&mut self) -> u32 {
         u32::from(self.u16()) << 16 | u32::from(self.u16())
     }
+}
+
+/// The fields of a BMHD by its bytes alone; 23 if it hasn't 20.
+pub fn header_fields(data: &[u8]) -> Result<Header, Refused> {
+    if data.len() != 20 {
+        return Err(Refused::plain(23));
+    }
+    Ok(read_header(&mut Reader(data)))
 }
 
 pub(crate) fn read_header(fields: &mut Reader) -> Header {

@@ -6,8 +6,8 @@ use crate::node::Node;
 use crate::random::Random;
 use crate::tree::LONGEST_FILE;
 
-pub use crate::inputs::{oversize_writer_input, query, row_input, writer_input};
-pub use crate::inputs::{Query, RowInput, WriterInput};
+pub use crate::inputs::{body_input, header_input, oversize_writer_input, query, row_input, writer_input};
+pub use crate::inputs::{BodyInput, Query, RowInput, WriterInput};
 
 /// One file; about a third are meant to be sound.
 pub fn file(random: &mut Random) -> Vec<u8> {

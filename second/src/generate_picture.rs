@@ -1,5 +1,6 @@
 //! Generated pictures: FORM ILBM alone, and LISTs of pictures with PROPs, one in another.
 
+use crate::fields::Layout;
 use crate::generate::{filler, local, outer_group};
 use crate::node::Node;
 use crate::random::Random;
@@ -8,7 +9,7 @@ use crate::random::Random;
 #[derive(Clone, Copy, Debug)]
 pub(crate) struct Plan {
     width: u16,
-    height: u16,
+    pub height: u16,
     planes: u8,
     masking: u8,
     compression: u8,
@@ -58,8 +59,13 @@ impl Plan {
         }
     }
 
+    pub fn layout(&self) -> Layout {
+        let Plan { width, planes, masking, compression, .. } = *self;
+        Layout { width, planes, masking, compression }
+    }
+
     /// The 20 bytes of BMHD; the other fields are random.
-    fn header(&self, random: &mut Random) -> Vec<u8> {
+    pub fn header(&self, random: &mut Random) -> Vec<u8> {
         let mut data = random.bytes(20);
         data[0..2].copy_from_slice(&self.width.to_be_bytes());
         data[2..4].copy_from_slice(&self.height.to_be_bytes());
@@ -229,7 +235,7 @@ fn shuffle(random: &mut Random, members: &mut [Node]) {
 
 /// BODY data by a plan: mostly sound, at times with bytes over, too short or
 /// with a changed byte.
-fn body(random: &mut Random, plan: &Plan) -> Vec<u8> {
+pub(crate) fn body(random: &mut Random, plan: &Plan) -> Vec<u8> {
     let length = usize::from(plan.width).div_ceil(16) * 2;
     let rows = plan.planes.min(8) + u8::from(plan.masking == 1);
     let mut data = Vec::new();

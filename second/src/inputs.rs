@@ -1,17 +1,30 @@
 //! Generated inputs of the calls that take more than a file.
 
-use crate::generate_picture::plane_row;
+use crate::answer::Refused;
+use crate::fields::Layout;
+use crate::generate_picture::{body, plane_row, Plan};
 use crate::listing::count_pictures;
 use crate::pack::{packed, LONGEST_ROW};
 use crate::picture::properties;
 use crate::random::Random;
-use crate::rows::scan_line;
+use crate::rows::{body_line, scan_line, ScanLine};
 use crate::write::{write_picture, Fields};
 
 /// What is asked of a picture.
 #[derive(Clone, Copy, Debug)]
 pub struct Query {
     pub picture: usize,
+    pub start: usize,
+    pub row_length: usize,
+    pub frame_length: usize,
+}
+
+/// Bytes as a BODY, the fields that they are read by, and what is asked of them.
+#[derive(Clone, Debug)]
+pub struct BodyInput {
+    pub body: Vec<u8>,
+    pub layout: Layout,
+    pub height: u16,
     pub start: usize,
     pub row_length: usize,
     pub frame_length: usize,
@@ -46,25 +59,55 @@ pub fn query(random: &mut Random, file: &[u8]) -> Query {
     let body = told.body.map_or(0, |range| range.len());
     Query {
         picture,
-        start: start_place(random, file, picture, width, body),
+        start: start_place(random, body, |start| scan_line(file, picture, start, width)),
         row_length: nearly(random, width),
         frame_length: nearly(random, frame),
     }
 }
 
-/// The start of a line, or any place up to a little beyond the BODY's end.
-fn start_place(random: &mut Random, file: &[u8], picture: usize, width: usize, body: usize) -> usize {
+/// The start of a line, or any place up to a little beyond the end of so many bytes.
+fn start_place(random: &mut Random, body: usize, line: impl Fn(usize) -> Result<ScanLine, Refused>) -> usize {
     if random.one_in(3) {
         return random.below(body + 4);
     }
     let mut start = 0;
     for _ in 0..random.below(4) {
-        let Ok(line) = scan_line(file, picture, start, width) else {
+        let Ok(line) = line(start) else {
             break;
         };
         start = line.next;
     }
     start
+}
+
+/// A BODY without a file; the fields and what is asked fit it mostly, but not always.
+pub fn body_input(random: &mut Random) -> BodyInput {
+    let plan = Plan::of(random);
+    let mut layout = plan.layout();
+    let body = body(random, &plan);
+    if random.one_in(30) {
+        layout = Plan::of(random).layout();
+    }
+    let width = usize::from(layout.width);
+    BodyInput {
+        start: start_place(random, body.len(), |start| body_line(&body, &layout, start, width)),
+        row_length: nearly(random, width),
+        frame_length: nearly(random, width * usize::from(plan.height)),
+        height: plan.height,
+        layout,
+        body,
+    }
+}
+
+/// The data of a BMHD, at times of a wrong size.
+pub fn header_input(random: &mut Random) -> Vec<u8> {
+    let mut data = Plan::of(random).header(random);
+    if random.one_in(3) {
+        let any = random.below(60);
+        let size = random.pick(&[0, 1, 19, 21, 28, any]);
+        data.resize(size, random.byte());
+    }
+    data
 }
 
 fn nearly(random: &mut Random, number: usize) -> usize {

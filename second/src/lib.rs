@@ -21,6 +21,7 @@ mod name;
 mod node;
 mod pack;
 mod picture;
+mod picture_table;
 pub mod random;
 mod rows;
 mod tree;
@@ -28,13 +29,14 @@ mod write;
 
 pub use answer::{Accepted, Refused};
 pub use copy::clean_copy;
-pub use fields::{Destination, Grab, Header};
+pub use fields::{header_fields, Destination, Grab, Header, Layout};
 pub use listing::{count_pictures, data, fill_table, listing_text, record, records, Record};
 pub use name::Name;
 pub use pack::{pack, LONGEST_ROW};
 pub use picture::{
     header_faults, palette, properties, surroundings, Origin, Properties, Property, Surroundings,
 };
-pub use rows::{frame, scan_line, Frame, ScanLine};
+pub use picture_table::{fill_pictures, picture_rows, PictureRow};
+pub use rows::{body_frame, body_line, frame, scan_line, Frame, ScanLine};
 pub use tree::{check, Chunk, Kind, Tree, LONGEST_FILE};
 pub use write::{write_picture, Fields};

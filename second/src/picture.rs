@@ -1,7 +1,7 @@
 //! Pictures: properties with their origins, refusals, the palette.
 
 use crate::answer::Refused;
-use crate::fields::{read_destination, read_grab, read_header, Destination, Grab, Header, Reader};
+use crate::fields::{read_destination, read_grab, read_header, Destination, Grab, Header, Layout, Reader};
 use crate::name::Name;
 use crate::tree::{Chunk, Kind, Tree};
 use std::ops::Range;
@@ -24,7 +24,7 @@ pub struct Property<T> {
 }
 
 impl<T> Property<T> {
-    fn map<U>(self, convert: impl FnOnce(T) -> U) -> Property<U> {
+    pub(crate) fn map<U>(self, convert: impl FnOnce(T) -> U) -> Property<U> {
         Property { origin: self.origin, value: self.value.map(convert) }
     }
 }
@@ -46,10 +46,21 @@ pub struct Properties {
     pub body: Option<Range<usize>>,
 }
 
+/// The names of the properties, in the order in which the table of pictures has them.
+pub(crate) const PROPERTIES: [Name; 6] =
+    [Name::BMHD, Name::CMAP, Name::GRAB, Name::DEST, Name::SPRT, Name::CAMG];
+
+/// A PROP ILBM: its place, and the last property of each name.
+#[derive(Clone, Copy)]
+pub(crate) struct Shared<'a> {
+    place: usize,
+    last: [Option<&'a Chunk>; 6],
+}
+
 /// A FORM ILBM with the PROPs ILBM of the LISTs around it, the outermost first.
-struct Picture<'a> {
-    form: &'a Chunk,
-    shared: Vec<&'a Chunk>,
+pub(crate) struct Picture<'a> {
+    pub form: &'a Chunk,
+    shared: Vec<Shared<'a>>,
 }
 
 /// The properties of a picture, or the first of 1 to 12, 20 to 23, 41 to 43 and 24.
@@ -80,12 +91,17 @@ pub fn surroundings(file: &[u8], number: usize) -> Result<Surroundings, Refused>
 pub fn header_faults(file: &[u8], number: usize) -> Result<Vec<u32>, Refused> {
     let tree = Tree::read(file)?;
     let (header, _, body) = nth_picture(&tree.outermost, number)?.header(file)?;
-    Ok(faults(&header, body.is_some()))
+    Ok(faults(&header.layout(), body.is_some() && header.is_empty()))
+}
+
+pub(crate) fn all_pictures(outermost: &Chunk) -> Vec<Picture<'_>> {
+    let mut pictures = Vec::new();
+    collect(outermost, &mut Vec::new(), &mut pictures);
+    pictures
 }
 
 fn nth_picture(outermost: &Chunk, number: usize) -> Result<Picture<'_>, Refused> {
-    let mut pictures = Vec::new();
-    collect(outermost, &mut Vec::new(), &mut pictures);
+    let mut pictures = all_pictures(outermost);
     if number >= pictures.len() {
         return Err(Refused::plain(20));
     }
@@ -99,14 +115,14 @@ pub fn palette<'a>(file: &'a [u8], number: usize, default: &'a [u8]) -> Result<&
 }
 
 /// The pictures in a chunk, where these PROPs ILBM stand in the LISTs around it.
-fn collect<'a>(chunk: &'a Chunk, shared: &mut Vec<&'a Chunk>, pictures: &mut Vec<Picture<'a>>) {
+fn collect<'a>(chunk: &'a Chunk, shared: &mut Vec<Shared<'a>>, pictures: &mut Vec<Picture<'a>>) {
     if chunk.kind == Kind::Form && chunk.name == Name::ILBM {
         pictures.push(Picture { form: chunk, shared: shared.clone() });
     }
     let outer = shared.len();
     if chunk.kind == Kind::List {
         let is_prop = |member: &&Chunk| member.kind == Kind::Prop && member.name == Name::ILBM;
-        shared.extend(chunk.members.iter().find(is_prop));
+        shared.extend(chunk.members.iter().find(is_prop).map(Shared::of));
     }
     for member in &chunk.members {
         collect(member, shared, pictures);
@@ -114,10 +130,22 @@ fn collect<'a>(chunk: &'a Chunk, shared: &mut Vec<&'a Chunk>, pictures: &mut Vec
     shared.truncate(outer);
 }
 
+impl<'a> Shared<'a> {
+    fn of(prop: &'a Chunk) -> Shared<'a> {
+        Shared { place: prop.place, last: PROPERTIES.map(|name| last_named(prop.members.iter(), name)) }
+    }
+
+    /// The property of this name, with the PROP as its origin.
+    fn property(&self, name: Name) -> Option<Property<&'a Chunk>> {
+        let number = PROPERTIES.iter().position(|one| *one == name)?;
+        self.last[number].map(|chunk| Property { origin: Origin::Shared(self.place), value: Some(chunk) })
+    }
+}
+
 impl<'a> Picture<'a> {
-    fn properties(&self, file: &[u8]) -> Result<Properties, Refused> {
+    pub fn properties(&self, file: &[u8]) -> Result<Properties, Refused> {
         let (header, header_origin, body) = self.header(file)?;
-        if let Some(number) = faults(&header, body.is_some()).first() {
+        if let Some(number) = faults(&header.layout(), body.is_some() && header.is_empty()).first() {
             return Err(Refused::plain(*number));
         }
         let read = |chunk: &Chunk| Reader(&file[data_range(chunk)]);
@@ -145,17 +173,13 @@ impl<'a> Picture<'a> {
     }
 
     /// The property of this name that counts.
-    fn property(&self, name: Name) -> Property<&'a Chunk> {
+    pub fn property(&self, name: Name) -> Property<&'a Chunk> {
         let before_body = || self.form.members.iter().take_while(|member| !is_local(member, Name::BODY));
         if let Some(own) = last_named(before_body(), name) {
             return Property { origin: Origin::Own, value: Some(own) };
         }
-        let in_prop =
-            |prop: &&'a Chunk| last_named(prop.members.iter(), name).map(|chunk| (prop.place, chunk));
-        match self.shared.iter().rev().find_map(in_prop) {
-            Some((place, chunk)) => Property { origin: Origin::Shared(place), value: Some(chunk) },
-            None => Property { origin: Origin::Absent, value: None },
-        }
+        let shared = self.shared.iter().rev().find_map(|prop| prop.property(name));
+        shared.unwrap_or(Property { origin: Origin::Absent, value: None })
     }
 
     /// The BODY directly in the FORM, if any; 22 if there are several.
@@ -177,8 +201,7 @@ impl<'a> Picture<'a> {
             Name::DEST => size == 8,
             _ => size == 4,
         };
-        let names = [Name::BMHD, Name::CMAP, Name::GRAB, Name::DEST, Name::SPRT, Name::CAMG];
-        let found = names.into_iter().map(|name| (name, self.property(name)));
+        let found = PROPERTIES.into_iter().map(|name| (name, self.property(name)));
         let wrong = found.filter(|(name, held)| held.value.is_some_and(|chunk| !is_right(*name, chunk.size)));
         wrong.map(|(name, held)| (name, held.origin)).collect()
     }
@@ -192,18 +215,14 @@ fn last_named<'a>(members: impl Iterator<Item = &'a Chunk>, name: Name) -> Optio
     members.filter(|member| is_local(member, name)).last()
 }
 
-fn data_range(chunk: &Chunk) -> Range<usize> {
+pub(crate) fn data_range(chunk: &Chunk) -> Range<usize> {
     chunk.data_start()..chunk.data_end()
 }
 
-/// "checked in the order 41, 42, 43, 24, where 24 stood": all that hold of a header.
-fn faults(header: &Header, has_body: bool) -> Vec<u32> {
-    let empty = header.width == 0 || header.height == 0 || header.planes == 0;
-    let checks = [
-        (41, header.planes > 8),
-        (42, header.masking > 3),
-        (43, header.compression > 1),
-        (24, has_body && empty),
-    ];
+/// "checked in the order 41, 42, 43, 24, where 24 stood": all that hold of a header, of which
+/// `empty` says whether 24 does.
+pub(crate) fn faults(layout: &Layout, empty: bool) -> Vec<u32> {
+    let checks =
+        [(41, layout.planes > 8), (42, layout.masking > 3), (43, layout.compression > 1), (24, empty)];
     checks.into_iter().filter(|(_, holds)| *holds).map(|(number, _)| number).collect()
 }

@@ -1,8 +1,8 @@
 //! Scan lines and frames of a picture: refusals 25 to 29.
 
 use crate::answer::Refused;
-use crate::fields::Header;
-use crate::picture::properties;
+use crate::fields::{Header, Layout};
+use crate::picture::{faults, properties};
 
 /// The colour numbers of one scan line and the place in the BODY after it.
 #[derive(Clone, Debug, PartialEq, Eq)]
@@ -21,29 +21,46 @@ pub struct Frame {
 /// Reads the scan line at `start` in the BODY, into a row of `row_length` bytes.
 pub fn scan_line(file: &[u8], picture: usize, start: usize, row_length: usize) -> Result<ScanLine, Refused> {
     let (header, body) = picture_body(file, picture)?;
-    if start > body.len() {
-        return Err(Refused::plain(29));
-    }
-    if row_length != usize::from(header.width) {
-        return Err(Refused::plain(28));
-    }
-    decode_line(&header, body, start)
+    body_line(body, &header.layout(), start, row_length)
 }
 
 /// Reads all scan lines from place 0, into a frame of `frame_length` bytes.
 pub fn frame(file: &[u8], picture: usize, frame_length: usize) -> Result<Frame, Refused> {
     let (header, body) = picture_body(file, picture)?;
-    if frame_length != usize::from(header.width) * usize::from(header.height) {
+    body_frame(body, &header.layout(), header.height, frame_length)
+}
+
+/// The scan line at `start` of any bytes as a BODY: 41, 42, 43, 24, then 29, 28, 27, 26.
+pub fn body_line(body: &[u8], layout: &Layout, start: usize, row_length: usize) -> Result<ScanLine, Refused> {
+    sound(layout, layout.width == 0 || layout.planes == 0)?;
+    if start > body.len() {
+        return Err(Refused::plain(29));
+    }
+    if row_length != usize::from(layout.width) {
+        return Err(Refused::plain(28));
+    }
+    decode_line(layout, body, start)
+}
+
+/// So many scan lines of any bytes as a BODY: 41, 42, 43, 24, then 28, 27, 26.
+pub fn body_frame(body: &[u8], layout: &Layout, height: u16, frame_length: usize) -> Result<Frame, Refused> {
+    sound(layout, layout.width == 0 || layout.planes == 0 || height == 0)?;
+    if frame_length != usize::from(layout.width) * usize::from(height) {
         return Err(Refused::plain(28));
     }
     let mut colours = Vec::new();
     let mut place = 0;
-    for _ in 0..header.height {
-        let line = decode_line(&header, body, place)?;
+    for _ in 0..height {
+        let line = decode_line(layout, body, place)?;
         colours.extend(line.colours);
         place = line.next;
     }
     Ok(Frame { colours, leftover: body.len() - place })
+}
+
+/// Refuses by the first fault of the fields.
+fn sound(layout: &Layout, empty: bool) -> Result<(), Refused> {
+    faults(layout, empty).first().map_or(Ok(()), |number| Err(Refused::plain(*number)))
 }
 
 /// The header and BODY of a picture, or the first of 1 to 12 and 20 to 25.
@@ -58,26 +75,26 @@ pub(crate) fn row_bytes(width: u16) -> usize {
     usize::from(width).div_ceil(16) * 2
 }
 
-fn decode_line(header: &Header, body: &[u8], start: usize) -> Result<ScanLine, Refused> {
-    let mut colours = vec![0; usize::from(header.width)];
+fn decode_line(layout: &Layout, body: &[u8], start: usize) -> Result<ScanLine, Refused> {
+    let mut colours = vec![0; usize::from(layout.width)];
     let mut next = start;
-    for plane in 0..header.planes {
-        let row = plane_row(header, body, &mut next)?;
+    for plane in 0..layout.planes {
+        let row = plane_row(layout, body, &mut next)?;
         for (x, colour) in colours.iter_mut().enumerate() {
             let bit = row[x / 8] >> (7 - x % 8) & 1;
             *colour |= bit << plane;
         }
     }
-    if header.masking == 1 {
-        plane_row(header, body, &mut next)?;
+    if layout.masking == 1 {
+        plane_row(layout, body, &mut next)?;
     }
     Ok(ScanLine { colours, next })
 }
 
 /// Reads one plane row at `place` and moves `place` behind it.
-fn plane_row(header: &Header, body: &[u8], place: &mut usize) -> Result<Vec<u8>, Refused> {
-    let length = row_bytes(header.width);
-    if header.compression == 1 {
+fn plane_row(layout: &Layout, body: &[u8], place: &mut usize) -> Result<Vec<u8>, Refused> {
+    let length = row_bytes(layout.width);
+    if layout.compression == 1 {
         return unpack_row(body, place, length);
     }
     let row = body.get(*place..*place + length).ok_or(Refused::at(26, *place))?;

@@ -2,6 +2,7 @@
 
 use second::generate::{self, Query};
 use second::random::Random;
+use second::{body_frame, body_line, count_pictures, header_fields, picture_rows};
 use second::{check, clean_copy, data, fill_table, frame, listing_text, pack, palette, properties};
 use second::{record, records, scan_line, write_picture, Frame, Kind, Origin, Refused};
 use std::collections::BTreeMap;
@@ -126,6 +127,45 @@ fn picture_numbers() {
         tally.add(&frame(file, picture, frame_length));
     });
     tally.needs([0].into_iter().chain(20..=29).chain(41..=43));
+}
+
+/// The table has an answer for each picture, and with the BODY what the calls by number give.
+#[test]
+fn tables_agree() {
+    let mut shown = 0;
+    for_files(|file, _| {
+        let rows = picture_rows(file);
+        assert_eq!(rows.as_ref().map(Vec::len).map_err(|refused| *refused), count_pictures(file));
+        for (number, row) in rows.iter().flatten().enumerate() {
+            let told = properties(file, number);
+            assert_eq!(row.answer, told.as_ref().map_or_else(|refused| refused.number, |_| 0));
+            let Ok(told) = told else { continue };
+            let header = header_fields(&file[row.properties[0].value.clone().unwrap()]).unwrap();
+            assert_eq!(header, told.header);
+            assert_eq!((&row.properties[1], &row.body), (&told.colour_map, &told.body));
+            let Some(body) = &row.body else { continue };
+            let size = usize::from(header.width) * usize::from(header.height);
+            let whole = body_frame(&file[body.clone()], &header.layout(), header.height, size);
+            assert_eq!(whole, frame(file, number, size));
+            shown += usize::from(whole.is_ok());
+        }
+    });
+    assert!(shown > files() / 20, "{shown} frames shown");
+}
+
+#[test]
+fn body_numbers() {
+    let mut random = Random::new(seed());
+    let (mut lines, mut frames, mut headers) = (Tally::default(), Tally::default(), Tally::default());
+    for _ in 0..files() {
+        let input = generate::body_input(&mut random);
+        lines.add(&body_line(&input.body, &input.layout, input.start, input.row_length));
+        frames.add(&body_frame(&input.body, &input.layout, input.height, input.frame_length));
+        headers.add(&header_fields(&generate::header_input(&mut random)));
+    }
+    lines.needs([0, 24, 26, 27, 28, 29, 41, 42, 43]);
+    frames.needs([0, 24, 26, 27, 28, 41, 42, 43]);
+    headers.needs([0, 23]);
 }
 
 /// A frame is its scan lines in turn.

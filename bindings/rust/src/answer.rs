@@ -29,7 +29,7 @@ impl Refused {
             10 => "a group of size under 4",
             11 => "type not allowed",
             12 => "second PROP of the same type in this LIST",
-            13 => "fewer places in the table than chunks",
+            13 => "fewer places in the table than chunks or pictures",
             14 => "no such record",
             15 => "a group, where a local chunk or filler is asked for",
             20 => "no such picture",

@@ -169,6 +169,61 @@ mod exported {
             leftover: &mut usize,
         ) -> usize;
 
+        pub fn ilbm_pictures(
+            file: *const u8,
+            file_length: usize,
+            table: *mut usize,
+            table_length: usize,
+            place: &mut usize,
+            pictures: &mut usize,
+        ) -> usize;
+
+        pub fn ilbm_bmhd(
+            data: *const u8,
+            data_length: usize,
+            w: &mut u16,
+            h: &mut u16,
+            x: &mut i16,
+            y: &mut i16,
+            planes: &mut u8,
+            masking: &mut u8,
+            compression: &mut u8,
+            pad1: &mut u8,
+            transparent: &mut u16,
+            x_aspect: &mut u8,
+            y_aspect: &mut u8,
+            page_width: &mut i16,
+            page_height: &mut i16,
+        ) -> usize;
+
+        pub fn ilbm_body_line(
+            body: *const u8,
+            body_length: usize,
+            w: u16,
+            planes: u8,
+            masking: u8,
+            compression: u8,
+            start: usize,
+            row: *mut u8,
+            row_length: usize,
+            place: &mut usize,
+            next: &mut usize,
+        ) -> usize;
+
+        pub fn ilbm_body_frame(
+            body: *const u8,
+            body_length: usize,
+            w: u16,
+            h: u16,
+            planes: u8,
+            masking: u8,
+            compression: u8,
+            frame: *mut u8,
+            frame_length: usize,
+            place: &mut usize,
+            leftover: &mut usize,
+        ) -> usize;
+
         pub fn byterun_pack(
             row: *const u8,
             row_length: usize,
@@ -456,6 +511,119 @@ pub fn ilbm_frame(
             file.as_ptr(),
             file.len(),
             picture,
+            frame.as_mut_ptr(),
+            frame.len(),
+            place,
+            leftover,
+        )
+    }
+}
+
+/// Tells all pictures, 30 numbers each: 0, or 1 to 12 with the place, or 13 if
+/// the table has fewer places than there are pictures. Of each: its answer, its
+/// FORM's place and type; for BMHD, CMAP, GRAB, DEST, SPRT and CAMG the origin
+/// as above, the PROP's place, and where its data lies, from and to; 1 or 0 for a
+/// BODY, from and to. Of a refused picture the first three are told, and the
+/// others are 0. Numbers behind the last picture stay as they are.
+pub fn ilbm_pictures(file: &[u8], table: &mut [usize], place: &mut usize, pictures: &mut usize) -> usize {
+    unsafe {
+        exported::ilbm_pictures(file.as_ptr(), file.len(), table.as_mut_ptr(), table.len(), place, pictures)
+    }
+}
+
+/// Tells the fields of a BMHD by its bytes: 0, or 23 if it hasn't 20.
+#[allow(clippy::too_many_arguments)]
+pub fn ilbm_bmhd(
+    data: &[u8],
+    w: &mut u16,
+    h: &mut u16,
+    x: &mut i16,
+    y: &mut i16,
+    planes: &mut u8,
+    masking: &mut u8,
+    compression: &mut u8,
+    pad1: &mut u8,
+    transparent: &mut u16,
+    x_aspect: &mut u8,
+    y_aspect: &mut u8,
+    page_width: &mut i16,
+    page_height: &mut i16,
+) -> usize {
+    unsafe {
+        exported::ilbm_bmhd(
+            data.as_ptr(),
+            data.len(),
+            w,
+            h,
+            x,
+            y,
+            planes,
+            masking,
+            compression,
+            pad1,
+            transparent,
+            x_aspect,
+            y_aspect,
+            page_width,
+            page_height,
+        )
+    }
+}
+
+/// Writes the colour numbers of a scan line from a place of any bytes as a BODY:
+/// 0, or 41, 42, 43, 24, 29, 28, 27 or 26, tried in this order.
+#[allow(clippy::too_many_arguments)]
+pub fn ilbm_body_line(
+    body: &[u8],
+    w: u16,
+    planes: u8,
+    masking: u8,
+    compression: u8,
+    start: usize,
+    row: &mut [u8],
+    place: &mut usize,
+    next: &mut usize,
+) -> usize {
+    unsafe {
+        exported::ilbm_body_line(
+            body.as_ptr(),
+            body.len(),
+            w,
+            planes,
+            masking,
+            compression,
+            start,
+            row.as_mut_ptr(),
+            row.len(),
+            place,
+            next,
+        )
+    }
+}
+
+/// Writes the colour numbers of all scan lines of any bytes as a BODY: 0, or 41,
+/// 42, 43, 24, 28, 27 or 26, tried in this order.
+#[allow(clippy::too_many_arguments)]
+pub fn ilbm_body_frame(
+    body: &[u8],
+    w: u16,
+    h: u16,
+    planes: u8,
+    masking: u8,
+    compression: u8,
+    frame: &mut [u8],
+    place: &mut usize,
+    leftover: &mut usize,
+) -> usize {
+    unsafe {
+        exported::ilbm_body_frame(
+            body.as_ptr(),
+            body.len(),
+            w,
+            h,
+            planes,
+            masking,
+            compression,
             frame.as_mut_ptr(),
             frame.len(),
             place,

@@ -14,6 +14,19 @@
 //! # Ok::<(), florinhado::Refused>(())
 //! ```
 //!
+//! A [`File`] is checked once and then gives its pictures, their properties and
+//! their scan lines; the functions by number, as [`header`] or [`frame`], check
+//! the file each time.
+//!
+//! ```
+//! let file = florinhado::File::new(include_bytes!("../../../samples/two_levels.iff"))?;
+//! for picture in file.pictures() {
+//!     let header = picture.header()?.value;
+//!     assert_eq!(picture.frame()?.len(), usize::from(header.width) * usize::from(header.height));
+//! }
+//! # Ok::<(), florinhado::Refused>(())
+//! ```
+//!
 //! # Refusals of a picture
 //!
 //! Every call on a picture is refused by the file's structure, 1 to 12 with the
@@ -47,8 +60,10 @@ pub mod calls;
 mod check;
 mod copy;
 mod data;
+mod file;
 mod pack;
 mod palette;
+mod picture;
 mod pictures;
 mod properties;
 mod record;
@@ -59,11 +74,13 @@ pub use answer::Refused;
 pub use check::{check, Accepted};
 pub use copy::clean_copy;
 pub use data::data;
+pub use file::File;
 pub use pack::pack;
 pub use palette::palette;
+pub use picture::{Lines, Picture};
 pub use pictures::count_pictures;
-pub use properties::{destination, grab, header, sprite, view_mode};
+pub use properties::{bmhd, destination, grab, header, sprite, view_mode};
 pub use properties::{Destination, Header, HotSpot, Origin, Property};
 pub use record::{record, records, Kind, Record};
-pub use rows::{frame, scan_line};
+pub use rows::{body_frame, body_line, frame, scan_line};
 pub use write::write;

@@ -121,6 +121,36 @@ pub fn header(file: &[u8], picture: usize) -> Result<Property<Header>, Refused> 
     answer(told, place, Property { value, origin: Origin::of(origin, shared) })
 }
 
+/// The fields of a BMHD by its bytes alone; 23 if it hasn't 20.
+///
+/// ```
+/// let data = [0, 3, 0, 1, 0, 0, 0, 0, 2, 0, 1, 0, 0, 0, 10, 11, 1, 64, 0, 200];
+/// let fields = florinhado::bmhd(&data)?;
+/// assert_eq!((fields.width, fields.height, fields.planes, fields.page_width), (3, 1, 2, 320));
+/// assert_eq!(florinhado::bmhd(&data[1..]).unwrap_err().number, 23);
+/// # Ok::<(), florinhado::Refused>(())
+/// ```
+pub fn bmhd(data: &[u8]) -> Result<Header, Refused> {
+    let mut value = Header::default();
+    let told = calls::ilbm_bmhd(
+        data,
+        &mut value.width,
+        &mut value.height,
+        &mut value.x,
+        &mut value.y,
+        &mut value.planes,
+        &mut value.masking,
+        &mut value.compression,
+        &mut value.pad1,
+        &mut value.transparent,
+        &mut value.x_aspect,
+        &mut value.y_aspect,
+        &mut value.page_width,
+        &mut value.page_height,
+    );
+    answer(told, 0, value)
+}
+
 /// The GRAB that counts for the picture with this number, or a refusal
 /// [of a picture](crate#refusals-of-a-picture).
 pub fn grab(file: &[u8], picture: usize) -> Result<Property<HotSpot>, Refused> {

@@ -3,8 +3,8 @@
 //! call may take. `run_big.sh` runs it with a small stack for the rest.
 
 use compare::chunks::group;
-use compare::large::{accepted, filled_up, forms, leaves, nested, props, shared_from_afar};
-use compare::large::{GROUPS, LEAVES, LEVELS};
+use compare::large::{accepted, filled_up, forms, leaves, nested, pictures_sharing, props, shared_from_afar};
+use compare::large::{GROUPS, LEAVES, LEVELS, SHARING};
 use compare::write::written;
 use compare::{Subject, Tally};
 use second::generate::WriterInput;
@@ -80,6 +80,20 @@ fn far_header() -> Case {
     Case { name: "15 nested LISTs, each with a PROP of 60,000 chunks", file: filled_up(file), known }
 }
 
+/// As many pictures with a BODY as fit; the CAT has as many without one.
+fn full_list() -> Case {
+    let file = pictures_sharing(SHARING, 0);
+    let known = Ok(accepted(4 + 2 * SHARING, file.len()));
+    Case { name: "LIST of as many pictures as fit", file: filled_up(file), known }
+}
+
+/// Pictures that have their headers of a PROP which takes long to go through.
+fn many_sharing() -> Case {
+    let file = pictures_sharing(20_000, 60_000);
+    let known = Ok(accepted(60_004 + 2 * 20_000, file.len()));
+    Case { name: "20,000 pictures sharing a PROP of 60,000 chunks", file: filled_up(file), known }
+}
+
 fn too_deep() -> Case {
     Case {
         name: "17 nested groups",
@@ -151,7 +165,7 @@ fn write_pictures() -> Result<(), String> {
 }
 
 fn run_all(count: usize) -> ExitCode {
-    let cases: [&dyn Fn() -> Case; 11] = [
+    let cases: [&dyn Fn() -> Case; 13] = [
         &full_form,
         &full_cat,
         &|| list_of_props(count),
@@ -159,6 +173,8 @@ fn run_all(count: usize) -> ExitCode {
         &deepest,
         &deep_members,
         &far_header,
+        &full_list,
+        &many_sharing,
         &too_deep,
         &too_long,
         &|| widest_picture(0),

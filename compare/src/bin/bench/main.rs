@@ -1,16 +1,17 @@
 //! `bench [PART]`: times of the library beside the second reader and plain
 //! programs in Rust, each line in turns in one run, as medians. Of the parts
-//! structure, frames, rows and growth the one that is named, or all. Where the
+//! structure, frames, rows, pictures and growth the one that is named, or all. Where the
 //! variable OUTSIDE names the shared object of `libavcodec.c`, frames are timed
 //! beside libavcodec too. Fails if something takes more than 2.3 times as long
-//! for twice the input, or a call on a picture inside many PROPs more than twice
-//! the check.
+//! for twice the input, a call on a picture inside many PROPs more than twice
+//! the check, or many pictures of a file far more than they may.
 
 mod drawn;
 mod frames;
 mod listing;
 mod outside;
 mod packing;
+mod pictures;
 mod structure;
 mod timing;
 mod writing;
@@ -42,6 +43,9 @@ fn main() -> ExitCode {
         packing::against_others();
         writing::against_others();
     }
+    if asked("pictures") {
+        within &= pictures::within_limits();
+    }
     if asked("growth") {
         timing::growth_heading();
         let greatest =
@@ -55,9 +59,17 @@ fn main() -> ExitCode {
     }
 }
 
+/// The most that a time may be beyond what is wanted, with other processes beside.
+const MARGIN: f64 = 1.15;
+
+/// Whether a ratio is within what is wanted, with a margin; tells if it isn't.
+fn within(what: &str, ratio: f64, wanted: f64) -> bool {
+    at_most(what, ratio, wanted * MARGIN)
+}
+
 fn at_most(what: &str, ratio: f64, greatest: f64) -> bool {
     if ratio > greatest {
-        println!("{what}: {ratio:.2} times as long, more than {greatest}");
+        println!("{what}: {ratio:.2} times as long, more than {greatest:.2}");
     }
     ratio <= greatest
 }

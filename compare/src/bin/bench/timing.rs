@@ -1,5 +1,6 @@
 //! Runs in turns, and the lines that show their medians.
 
+use compare::shapes::now;
 use std::hint::black_box;
 use std::time::Instant;
 
@@ -24,6 +25,17 @@ pub fn timed<'a, T>(mut run: impl FnMut() -> T + 'a) -> Timed<'a> {
             black_box(run());
         }
         start.elapsed().as_secs_f64()
+    })
+}
+
+/// The same for a function that runs so long that other processes come in between, whose time is left out.
+pub fn timed_alone<'a, T>(mut run: impl FnMut() -> T + 'a) -> Timed<'a> {
+    Box::new(move |times| {
+        let start = now();
+        for _ in 0..times {
+            black_box(run());
+        }
+        now() - start
     })
 }
 
