@@ -469,7 +469,7 @@ def body_frame(body, fields):
     return room.raw[:size]
 
 
-_FEW = 32  # places of the table that is lent first
+_FEW = 4096  # places of the table that is lent first
 _ROW = 30  # numbers of a picture
 _SHORTEST = 12  # bytes of a picture
 _PIXELS_OF_A_BYTE = 512  # at most: a repeat of 128 bytes has two
@@ -517,6 +517,11 @@ class File:
     >>> with open("../../samples/headers.iff") as file:
     ...     [picture.refusal and picture.refusal.number for picture in file.pictures()]
     [41, 42, 43, 24, 41, None]
+
+    One check is enough for up to 4,096 pictures, three are made for more.
+
+    >>> len(File(b"CAT " + (60004).to_bytes(4, "big") + b"ILBM" + 5000 * b"FORM\\0\\0\\0\\x04ILBM").pictures())
+    5000
     """
 
     def __init__(self, source):

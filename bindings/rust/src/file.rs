@@ -7,7 +7,7 @@ use crate::pictures::count_pictures;
 use crate::record::{records, Record};
 
 /// Places of the table that is lent first; it does for most files.
-const FEW: usize = 32;
+const FEW: usize = 4096;
 
 /// Bytes of the shortest picture.
 const SHORTEST: usize = 12;
@@ -41,7 +41,8 @@ pub struct File<'a> {
 
 impl<'a> File<'a> {
     /// Accepts a file and finds its pictures, or refuses it with the first of 1
-    /// to 12. One check is enough for up to 32 pictures, three are made for more.
+    /// to 12. One check is enough for up to 4,096 pictures, three are made for
+    /// more.
     ///
     /// ```
     /// let file = florinhado::File::new(include_bytes!("../../../samples/headers.iff"))?;
@@ -112,5 +113,6 @@ fn table(bytes: &[u8], places: usize) -> Result<Vec<Row>, Refused> {
     let (mut place, mut pictures) = (0, 0);
     let told = calls::ilbm_pictures(bytes, rows.as_flattened_mut(), &mut place, &mut pictures);
     rows.truncate(pictures);
+    rows.shrink_to_fit();
     answer(told, place, rows)
 }

@@ -35,6 +35,18 @@ fn samples_both_ways() {
     }
 }
 
+/// More pictures than the table that is lent first has places.
+#[test]
+fn very_many() {
+    let pictures = 5000;
+    let size = 4 + 12 * pictures as u32;
+    let mut bytes = [b"CAT ", &size.to_be_bytes()[..], b"ILBM"].concat();
+    bytes.extend(b"FORM\0\0\0\x04ILBM".repeat(pictures));
+    let file = File::new(&bytes).unwrap();
+    assert_eq!(file.pictures().len(), pictures);
+    assert_eq!(file.picture(pictures - 1).map(|picture| picture.place()), Some(12 * pictures));
+}
+
 #[test]
 fn refused_when_opened() {
     let bytes = include_bytes!("../../../samples/second_prop.iff");
