@@ -132,7 +132,10 @@ fill-loop-holds : (t : ℕ) → fill-lts.Need-loop-holds (fill-calls t) (fill-at
 fill-loop-holds t c = search (loop-laws, needs)
 
 fill-visit-requires : (t : ℕ) → fill-lts.Need-visit-requires (fill-calls t) (fill-at t) fill.Post fill-Inv-loop fill-μ-loop
-fill-visit-requires t c κs = search (loop-laws, needs)
+fill-visit-requires t c κs =
+    let k = c .before .before .loop .inv in
+    let a = c .before .before .before .before .before .pre in
+    (omega (arith, a .0, k .0), (search needs, omega (arith, k .0), a .1 .1, omega (arith, k .4)))
 
 fill-sibling-at-requires : (t : ℕ) → fill-lts.Need-sibling-at-requires (fill-calls t) (fill-at t) fill.Post fill-Inv-loop fill-μ-loop
 fill-sibling-at-requires t c κs = search (loop-laws, needs)
