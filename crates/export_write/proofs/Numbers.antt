@@ -47,21 +47,24 @@ numbers-refused : (x : WriteAnswer) (k : ℕ) → x ≡ Refused k → _≡_ {A =
 unfolding writeNumbers
 numbers-refused x k e = rw e
 
-module _ (b c : BitmapHeader) (h : b ≡ c) (palette frame out after : List ℕ) (v : WriteAnswer) (a : v ≡ writeOf b palette frame (length out)) (e : after ≡ outAfter (writeOf b palette frame (length out)) (pictureFile b palette frame) out) where
-  answer-is : v ≡ writeOf c palette frame (length out)
-  answer-is = a ∙ ap (λ (d : BitmapHeader). writeOf d palette frame (length out)) h
+module _
+    (b c : BitmapHeader) (h : b ≡ c) (palette frame shape out after : List ℕ) (v : WriteAnswer)
+    (a : v ≡ writeOf b palette frame shape (length out))
+    (e : after ≡ outAfter (writeOf b palette frame shape (length out)) (pictureFile b palette frame shape) out) where
+  answer-is : v ≡ writeOf c palette frame shape (length out)
+  answer-is = a ∙ ap (λ (d : BitmapHeader). writeOf d palette frame shape (length out)) h
 
-  bytes-are : after ≡ outAfter (writeOf c palette frame (length out)) (pictureFile c palette frame) out
-  bytes-are = e ∙ ap (λ (d : BitmapHeader). outAfter (writeOf d palette frame (length out)) (pictureFile d palette frame) out) h
+  bytes-are : after ≡ outAfter (writeOf c palette frame shape (length out)) (pictureFile c palette frame shape) out
+  bytes-are = e ∙ ap (λ (d : BitmapHeader). outAfter (writeOf d palette frame shape (length out)) (pictureFile d palette frame shape) out) h
 
   pub picture-written :
       (n : ℕ) → v ≡ Written n →
-      (_≡_ {A = SizeNumbers} (record { number = 0; value = n }) (writeNumbers (writeOf c palette frame (length out))))
-      × (after ≡ outAfter (writeOf c palette frame (length out)) (pictureFile c palette frame) out)
+      (_≡_ {A = SizeNumbers} (record { number = 0; value = n }) (writeNumbers (writeOf c palette frame shape (length out))))
+      × (after ≡ outAfter (writeOf c palette frame shape (length out)) (pictureFile c palette frame shape) out)
   picture-written n i = (numbers-written _ n (sym answer-is ∙ i), bytes-are)
 
   pub picture-refused :
       (k : ℕ) → v ≡ Refused k →
-      (_≡_ {A = SizeNumbers} (record { number = k; value = 0 }) (writeNumbers (writeOf c palette frame (length out))))
-      × (after ≡ outAfter (writeOf c palette frame (length out)) (pictureFile c palette frame) out)
+      (_≡_ {A = SizeNumbers} (record { number = k; value = 0 }) (writeNumbers (writeOf c palette frame shape (length out))))
+      × (after ≡ outAfter (writeOf c palette frame shape (length out)) (pictureFile c palette frame shape) out)
   picture-refused k i = (numbers-refused _ k (sym answer-is ∙ i), bytes-are)

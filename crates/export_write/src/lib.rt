@@ -32,7 +32,8 @@ pub extern "C" fn byterun_pack(row: &[u8], out: &mut [u8], size: &mut usize) -> 
     }
 }
 
-// One picture as a file, into `out`: 33, 34, 35, then 32 if `out` is too short. The frame has w times h colour numbers.
+// One picture as a file, into `out`: 33, 34, 45, 35, then 32 if `out` is too short. The frame has w times h colour numbers; the shape has
+// as many bytes for masking 1, each 1 or 0, and none otherwise.
 #[no_mangle]
 pub extern "C" fn ilbm_write(
     w: u16,
@@ -49,14 +50,18 @@ pub extern "C" fn ilbm_write(
     page_height: i16,
     palette: &[u8],
     frame: &[u8],
+    shape: &[u8],
     out: &mut [u8],
     size: &mut usize,
 ) -> usize
     ensures answer { λ r. ⌜ record { number = r; value = now (size .exit) }
-        ≡ writeNumbers (writeOf (headerOf w h x y planes masking compression transparent «x_aspect» «y_aspect» «page_width» «page_height») (now (palette .entry)) (now (frame .entry)) (length (now (out .entry)))) ⌝ }
+        ≡ writeNumbers (writeOf (headerOf w h x y planes masking compression transparent «x_aspect» «y_aspect» «page_width» «page_height»)
+        (now (palette .entry)) (now (frame .entry)) (now (shape .entry)) (length (now (out .entry)))) ⌝ }
     ensures bytes { λ _. ⌜ now (out .exit)
-        ≡ outAfter (writeOf (headerOf w h x y planes masking compression transparent «x_aspect» «y_aspect» «page_width» «page_height») (now (palette .entry)) (now (frame .entry)) (length (now (out .entry))))
-        (pictureFile (headerOf w h x y planes masking compression transparent «x_aspect» «y_aspect» «page_width» «page_height») (now (palette .entry)) (now (frame .entry))) (now (out .entry)) ⌝ }
+        ≡ outAfter (writeOf (headerOf w h x y planes masking compression transparent «x_aspect» «y_aspect» «page_width» «page_height»)
+        (now (palette .entry)) (now (frame .entry)) (now (shape .entry)) (length (now (out .entry))))
+        (pictureFile (headerOf w h x y planes masking compression transparent «x_aspect» «y_aspect» «page_width» «page_height»)
+        (now (palette .entry)) (now (frame .entry)) (now (shape .entry))) (now (out .entry)) ⌝ }
 {
     let header = BitmapHeader {
         w,
@@ -73,7 +78,7 @@ pub extern "C" fn ilbm_write(
         page_width,
         page_height,
     };
-    let v = write_picture::write_picture(header, palette, frame, out);
+    let v = write_picture::write_picture(header, palette, frame, shape, out);
     match v {
         WriteAnswer::Written(file_size) => {
             *size = file_size;

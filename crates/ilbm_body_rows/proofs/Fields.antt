@@ -16,7 +16,7 @@ use Rattle.ilbm_spec.specs.laws.Pictures as Pictures
 use Rattle.ilbm_body_rows.proofs.Laws.{LineAnswered, FrameAnswered}
 
 -- the refusal of the fields of a BODY's header
-abbrev refusal : ℕ → ℕ → ℕ → ℕ → ℕ → ℕ
+abbrev pub refusal : ℕ → ℕ → ℕ → ℕ → ℕ → ℕ
 refusal w h planes masking compression = fieldsRefusal planes masking compression (emptyFields w h planes)
 
 pub judged :
@@ -27,11 +27,11 @@ judged w h planes masking compression n e i j = rw (← i) j
 pub few-planes : (w h planes masking compression n : ℕ) → n ≡ refusal w h planes masking compression → n ≡ 0 → planes ≤ 8
 few-planes w h planes masking compression n j z = Pictures.few-planes planes masking compression (emptyFields w h planes) (sym j ∙ z)
 
-module _ (n k : ℕ) (j : n ≡ k) (rows : Read (List ℕ)) where
-  unfit : (n ≡ 0 → ⊥) → onFields k rows ≡ refused n 0
+module _ {A : Type 0} (n k : ℕ) (j : n ≡ k) (rows : Read A) where
+  pub unfit : (n ≡ 0 → ⊥) → onFields k rows ≡ refused n 0
   unfit z = rw (← j, ne-eqb _ _ z)
 
-  fit : n ≡ 0 → onFields k rows ≡ rows
+  pub fit : n ≡ 0 → onFields k rows ≡ rows
   fit z = rw (← j, eq-eqb _ _ z)
 
 module _

@@ -39,19 +39,19 @@ module _ (body : List ℕ) (w planes masking compression start : ℕ) (old : Lis
   line-read r new l n t = rw (le-ltb _ _ l, eq-eqb _ _ n) t
 
 -- what is told of lines, with the count of what is left after them
-module _ (size : ℕ) (v : Read (List ℕ)) (r : LineAnswer) (e : r ≡ lineAnswer v) where
-  left-next : (q m : ℕ) → r ≡ Next q → m ≡ size - q → Leftover m ≡ frameAnswer (leftover size v)
+module _ {A : Type 0} (size : ℕ) (v : Read A) (r : LineAnswer) (e : r ≡ lineAnswer v) where
+  pub left-next : (q m : ℕ) → r ≡ Next q → m ≡ size - q → Leftover m ≡ frameAnswer (leftover size v)
   left-next q m j d = go v (sym j ∙ e)
     where
-      go : (v : Read (List ℕ)) → Next q ≡ lineAnswer v → Leftover m ≡ frameAnswer (leftover size v)
-      go (found (cs, p)) u = let z : q ≡ p = cc in ap Leftover (d ∙ ap (λ (o : ℕ). size - o) z)
+      go : (v : Read A) → Next q ≡ lineAnswer v → Leftover m ≡ frameAnswer (leftover size v)
+      go (found (a, p)) u = let z : q ≡ p = cc in ap Leftover (d ∙ ap (λ (o : ℕ). size - o) z)
       go (refused k p) u = absurd (let z : _≡_ {A = ℕ} 0 1 = cc in omega arith)
 
-  left-refused : (k p : ℕ) → r ≡ Refused k p → Frame-refused k p ≡ frameAnswer (leftover size v)
+  pub left-refused : (k p : ℕ) → r ≡ Refused k p → Frame-refused k p ≡ frameAnswer (leftover size v)
   left-refused k p j = go v (sym j ∙ e)
     where
-      go : (v : Read (List ℕ)) → Refused k p ≡ lineAnswer v → Frame-refused k p ≡ frameAnswer (leftover size v)
-      go (found (cs, q)) u = absurd (let z : _≡_ {A = ℕ} 0 1 = cc in omega arith)
+      go : (v : Read A) → Refused k p ≡ lineAnswer v → Frame-refused k p ≡ frameAnswer (leftover size v)
+      go (found (a, q)) u = absurd (let z : _≡_ {A = ℕ} 0 1 = cc in omega arith)
       go (refused f q) u = cc
 
 left-bytes : (size : ℕ) (v : Read (List ℕ)) (old : List ℕ) → bytesAfter v old ≡ bytesAfter (leftover size v) old

@@ -52,7 +52,7 @@ fn sound_line(
 }
 
 // 41, 42, 43 or 24 for the fields of a BODY's header, or 0.
-fn judge_fields(w: u16, h: u16, planes: u8, masking: u8, compression: u8) -> usize
+pub fn judge_fields(w: u16, h: u16, planes: u8, masking: u8, compression: u8) -> usize
     ensures { λ r. ⌜ r ≡ fieldsRefusal planes masking compression (emptyFields w h planes) ⌝ }
 {
     let empty = empty_fields(w, h, planes);
@@ -82,7 +82,7 @@ pub fn line_in_body(
 }
 
 // The bytes of a BODY that are left after its rows.
-fn left_over(size: usize, end: usize) -> usize
+pub fn left_over(size: usize, end: usize) -> usize
     ensures { λ r. ⌜ r ≡ size - end ⌝ }
 {
     if end <= size { size - end } else { 0 }

@@ -8,7 +8,8 @@ use lib.ListN.{take, drop}
 use native.Mathlib.Nat.{mul-le-mul-right}
 use native.Mathlib.Omega.{arith}
 use Rattle.iff_name.specs.Name.{pick}
-use Rattle.ilbm_spec.specs.Rows.{rowLength, rowsInLine, Read, thenRead, IsRead, rowsFrom, coloursFrom, lineBy, lineAnswer, bytesAfter}
+use Rattle.ilbm_spec.specs.Rows.{rowLength, rowsInLine, Read, thenRead, IsRead, rowsFrom, coloursFrom, Pixels, lineWith, lineBy, lineAnswer}
+use Rattle.ilbm_spec.specs.Rows.{bytesAfter}
 use Rattle.ilbm_gather.specs.Buffer.{rowsIn}
 use Rattle.ilbm_plane_rows.proofs.Judging.{answered-next, answered-read, answered-refusal}
 use Rattle.ilbm_spec.specs.declared.LineAnswer.{LineAnswer}
@@ -55,29 +56,31 @@ module _ (compression : ℕ) (body : List ℕ) (w planes rows at n : ℕ) (e : n
       let a : rowsFrom compression body (rowLength w) rows at ≡ found ((rowsIn n rows 0 buffer), q) = rw (← e) f in
       rw (a, rows-first n rows planes 0 buffer h, g, l)
 
-  -- what was judged of the rows
+-- what was judged of the rows
+module _ (compression : ℕ) (body : List ℕ) (w rows at n : ℕ) (e : n ≡ rowLength w) where
   module _ (r : LineAnswer) (j : r ≡ lineAnswer (rowsFrom compression body n rows at)) where
     pub rows-judged : (q : ℕ) → r ≡ Next q → IsRead (rowsFrom compression body (rowLength w) rows at)
     rows-judged q d = answered-next (rowsFrom compression body (rowLength w) rows at) r (rw e at j) q d
 
-    module _ (m : ℕ) (c : rows ≡ m) (old : List ℕ) where
-      line-answered : r ≡ lineAnswer (lineBy compression w planes m body at)
+    -- whatever is made of them
+    module _ (pixels : Pixels) (m : ℕ) (c : rows ≡ m) where
+      pub line-answered : r ≡ lineAnswer (lineWith pixels compression (rowLength w) m body at)
       line-answered = rw (← c) (rw e at j ∙ go (rowsFrom compression body (rowLength w) rows at))
         where
-          go : (v : Read (List (List ℕ))) →
-              lineAnswer v ≡ lineAnswer (thenRead v (λ planeRows q. found ((coloursFrom 0 w (take planes planeRows)), q)))
+          go : (v : Read (List (List ℕ))) → lineAnswer v ≡ lineAnswer (thenRead v (λ planeRows q. found ((pixels planeRows), q)))
           go (found (a, p)) = refl
           go (refused k p) = refl
 
-      pub line-read :
-          (new : List ℕ) (q p : ℕ) → r ≡ Next q → lineBy compression w planes rows body at ≡ found (new, p) →
-          (Next q ≡ lineAnswer (lineBy compression w planes m body at)) × (new ≡ bytesAfter (lineBy compression w planes m body at) old)
-      line-read new q p d i = answered-read (lineBy compression w planes m body at) r line-answered old new q p d (rw c at i)
+      module _ (old : List ℕ) where
+        pub line-read :
+            (new : List ℕ) (q p : ℕ) → r ≡ Next q → lineWith pixels compression (rowLength w) rows body at ≡ found (new, p) →
+            let v = lineWith pixels compression (rowLength w) m body at in (Next q ≡ lineAnswer v) × (new ≡ bytesAfter v old)
+        line-read new q p d i =
+            answered-read (lineWith pixels compression (rowLength w) m body at) r line-answered old new q p d (rw c at i)
 
-      pub line-refusal :
-          (k p : ℕ) → r ≡ Refused k p →
-          (Refused k p ≡ lineAnswer (lineBy compression w planes m body at)) ×
-          (old ≡ bytesAfter (lineBy compression w planes m body at) old)
-      line-refusal k p d = answered-refusal (lineBy compression w planes m body at) r line-answered old k p d
+        pub line-refusal :
+            (k p : ℕ) → r ≡ Refused k p →
+            let v = lineWith pixels compression (rowLength w) m body at in (Refused k p ≡ lineAnswer v) × (old ≡ bytesAfter v old)
+        line-refusal k p d = answered-refusal (lineWith pixels compression (rowLength w) m body at) r line-answered old k p d
 
-pub ruleset lines = (count-room, rows-fit, rows-read, line-written, rows-judged, line-read, line-refusal)
+pub ruleset lines = (count-room, rows-fit, rows-read, line-written, rows-judged)

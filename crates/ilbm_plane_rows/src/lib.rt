@@ -54,7 +54,7 @@ pub fn judge_rows(body: &[u8], at: usize, n: usize, rows: usize, compression: u8
 }
 
 // Writes rows that are known to be sound into the buffer, one after the other, and returns the place after them.
-fn write_rows(
+pub fn write_rows(
     body: &[u8],
     at: usize,
     n: usize,

@@ -38,7 +38,7 @@ first-body s a b (x ∷ xs) w =
     record { first = x; others = xs; is = refl; is-data = sym e; order = omega (arith, w .1); inside = w .2 }
 
 module _ (s : List ℕ) (c : Contents) (h : BitmapHeader) (a b : ℕ) (i : c .body ≡ Between a b) where
-  body-of : (x : Content) → Shown s c h x → FirstBody s a b (x .bodies)
+  pub body-of : (x : Content) → Shown s c h x → FirstBody s a b (x .bodies)
   body-of x k = first-body s a b (x .bodies) (rw i at (k .parts .body))
 
   pub body-order : Judged s c h → a ≤ b

@@ -21,7 +21,7 @@ use Rattle.ilbm_find.specs.Seen.{ViewIs}
 use Rattle.iff_tree.specs.Judge.{refused}
 use Rattle.ilbm_rows.specs.Lines.{LineDone, FrameDone}
 
-no-body : (s : List ℕ) (bodies : List Located) → Shows s Nothing (firstOf bodies) → bodies ≡ []
+pub no-body : (s : List ℕ) (bodies : List Located) → Shows s Nothing (firstOf bodies) → bodies ≡ []
 no-body s [] w = refl
 no-body s (d ∷ ds) w = absurd w
 

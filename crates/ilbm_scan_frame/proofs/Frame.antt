@@ -1,4 +1,5 @@
--- The rows of a frame are those of its lines, one after the other; and a turn of the loop that writes lines adds one to those before it.
+-- The rows of a frame are those of its lines, one after the other; and a turn of the loop that writes lines adds one to those before it. So
+-- it is for whatever is made of a line's rows, w bytes for each.
 use Prim.Native.Nat.{ℕ, zero, suc, _+_, _-_, _*_, _^_, _<_, _≤_}
 use mathlib.Core.Path.{_≡_, refl, sym, ap, _∙_}
 use mathlib.Core.List.{List, [], _++_, append-assoc, append-nil}
@@ -8,7 +9,7 @@ use mir.Syntax.{w64}
 use mir.Val.{Fits}
 use native.Mathlib.Nat.{zero-mul, suc-mul, add-mul, one-mul, mul-comm, mul-le-mul-left}
 use native.Mathlib.Omega.{arith}
-use Rattle.ilbm_spec.specs.Rows.{rowLength, Read, thenRead, IsRead, rowRead, rowsFrom, coloursFrom, lineBy, linesBy, lineAnswer, bytesAfter}
+use Rattle.ilbm_spec.specs.Rows.{Read, thenRead, IsRead, rowRead, rowsFrom, Pixels, lineWith, linesWith, lineAnswer, bytesAfter}
 use Rattle.ilbm_spec.specs.laws.Rows.{one-value, one-place}
 use Rattle.byterun_row.specs.ByteRun.{rowOf}
 use Rattle.ilbm_gather.proofs.Colours.{row-room}
@@ -20,6 +21,10 @@ use Rattle.ilbm_plane_rows.proofs.Judging.{onward, answered-onward, answered-ne
 -- the part of a frame that is lent for a line
 pub part-long : (a n : ℕ) (xs : List ℕ) → a + n ≤ length xs → length (take (a + n - a) (drop a xs)) ≡ n
 part-long a n xs h = let e : a + n - a ≡ n = omega arith in rw e (length-take-le n (drop a xs) (rw length-drop (omega arith)))
+
+-- the lines that are read, behind these pixels
+abbrev after : List ℕ → Read (List ℕ) → Read (List ℕ)
+after cs v = thenRead v (λ rest r. found ((cs ++ rest), r))
 
 -- a + b rows are a rows, and then b
 rows-add :
@@ -45,69 +50,71 @@ rows-add compression body n (suc a) b at =
         sym (past bs (rowsFrom compression body n a q))
     go ih (refused k p) = refl
 
-module _ (compression w planes rows : ℕ) (body : List ℕ) where
+module _ (pixels : Pixels) (compression n rows : ℕ) (body : List ℕ) where
   -- the lines from a place are told of as their rows are
   lines-answered : (h at : ℕ) →
-      lineAnswer (rowsFrom compression body (rowLength w) (h * rows) at) ≡ lineAnswer (linesBy compression w planes rows body h at)
-  unfolding rowsFrom linesBy
+      lineAnswer (rowsFrom compression body n (h * rows) at) ≡ lineAnswer (linesWith pixels compression n rows body h at)
+  unfolding rowsFrom linesWith
   lines-answered zero at = rw (zero-mul rows)
   lines-answered (suc h) at =
       let e : suc h * rows ≡ rows + h * rows = omega (arith, suc-mul h rows) in
-      rw e (rows-add compression body (rowLength w) rows (h * rows) at ∙
-      go (λ q. lines-answered h q) (rowsFrom compression body (rowLength w) rows at))
+      rw e (rows-add compression body n rows (h * rows) at ∙
+      go (λ q. lines-answered h q) (rowsFrom compression body n rows at))
     where
-      past : (cs : List ℕ) (v : Read (List ℕ)) → lineAnswer v ≡ lineAnswer (thenRead v (λ rest r. found ((cs ++ rest), r)))
+      past : (cs : List ℕ) (v : Read (List ℕ)) → lineAnswer v ≡ lineAnswer (after cs v)
       past cs (found (rest, r)) = refl
       past cs (refused k p) = refl
 
       go :
-          ((q : ℕ) → lineAnswer (rowsFrom compression body (rowLength w) (h * rows) q) ≡ lineAnswer (linesBy compression w planes rows body h q)) → (v : Read (List (List ℕ))) →
-          lineAnswer (thenRead v (λ rs q. rowsFrom compression body (rowLength w) (h * rows) q))
+          ((q : ℕ) → lineAnswer (rowsFrom compression body n (h * rows) q) ≡ lineAnswer (linesWith pixels compression n rows body h q)) →
+          (v : Read (List (List ℕ))) →
+          lineAnswer (thenRead v (λ rs q. rowsFrom compression body n (h * rows) q))
           ≡ lineAnswer (thenRead (thenRead v (λ rs q. found (
-            (coloursFrom 0 w (take planes rs)),
+            (pixels rs),
             q,
-          ))) (λ cs q. thenRead (linesBy compression w planes rows body h q) (λ rest r. found ((cs ++ rest), r))))
-      go ih (found (rs, q)) = ih q ∙ past (coloursFrom 0 w (take planes rs)) (linesBy compression w planes rows body h q)
+          ))) (λ cs q. after cs (linesWith pixels compression n rows body h q)))
+      go ih (found (rs, q)) = ih q ∙ past (pixels rs) (linesWith pixels compression n rows body h q)
       go ih (refused k p) = refl
 
   -- what was judged of a frame's rows
-  module _ (h n : ℕ) (e : n ≡ rowLength w) (r : LineAnswer) (j : r ≡ lineAnswer (rowsFrom compression body n (h * rows) 0)) where
-    frame-answered : r ≡ lineAnswer (linesBy compression w planes rows body h 0)
+  module _ (h k : ℕ) (e : k ≡ n) (r : LineAnswer) (j : r ≡ lineAnswer (rowsFrom compression body k (h * rows) 0)) where
+    pub frame-answered : r ≡ lineAnswer (linesWith pixels compression n rows body h 0)
     frame-answered = rw e at j ∙ lines-answered h 0
 
-    pub frame-judged : (q : ℕ) → r ≡ Next q → IsRead (linesBy compression w planes rows body h 0)
-    frame-judged q d = answered-next (linesBy compression w planes rows body h 0) r frame-answered q d
+    pub frame-judged : (q : ℕ) → r ≡ Next q → IsRead (linesWith pixels compression n rows body h 0)
+    frame-judged q d = answered-next (linesWith pixels compression n rows body h 0) r frame-answered q d
 
     module _ (m : ℕ) (c : rows ≡ m) (old : List ℕ) where
       pub frame-read :
-          (new : List ℕ) (q p : ℕ) → r ≡ Next q → linesBy compression w planes rows body h 0 ≡ found (new, p) →
-          (Next q ≡ lineAnswer (linesBy compression w planes m body h 0)) × (new ≡ bytesAfter (linesBy compression w planes m body h 0) old)
-      frame-read new q p d i = rw (← c) (answered-read (linesBy compression w planes rows body h 0) r frame-answered old new q p d i)
+          (new : List ℕ) (q p : ℕ) → r ≡ Next q → linesWith pixels compression n rows body h 0 ≡ found (new, p) →
+          (Next q ≡ lineAnswer (linesWith pixels compression n m body h 0)) ×
+          (new ≡ bytesAfter (linesWith pixels compression n m body h 0) old)
+      frame-read new q p d i = rw (← c) (answered-read (linesWith pixels compression n rows body h 0) r frame-answered old new q p d i)
 
       pub frame-refusal :
           (k p : ℕ) → r ≡ Refused k p →
-          (Refused k p ≡ lineAnswer (linesBy compression w planes m body h 0)) ×
-          (old ≡ bytesAfter (linesBy compression w planes m body h 0) old)
-      frame-refusal k p d = rw (← c) (answered-refusal (linesBy compression w planes rows body h 0) r frame-answered old k p d)
+          (Refused k p ≡ lineAnswer (linesWith pixels compression n m body h 0)) ×
+          (old ≡ bytesAfter (linesWith pixels compression n m body h 0) old)
+      frame-refusal k p d = rw (← c) (answered-refusal (linesWith pixels compression n rows body h 0) r frame-answered old k p d)
 
   -- where lines are left, the first of them is read, and then the others
   lines-once :
       (h y q : ℕ) → y < h →
-      linesBy compression w planes rows body (h - y) q
-      ≡ thenRead (lineBy compression w planes rows body q) (λ cs p. thenRead (linesBy compression w planes rows body (h - (y + 1)) p) (λ rest r. found ((cs ++ rest), r)))
-  unfolding linesBy
+      linesWith pixels compression n rows body (h - y) q
+      ≡ thenRead (lineWith pixels compression n rows body q) (λ cs p. after cs (linesWith pixels compression n rows body (h - (y + 1)) p))
+  unfolding linesWith
   lines-once h y q l = let e : h - y ≡ suc (h - (y + 1)) = omega arith in rw e
 
-  lines-none : (h y q : ℕ) → h ≤ y → linesBy compression w planes rows body (h - y) q ≡ found ([], q)
-  unfolding linesBy
+  lines-none : (h y q : ℕ) → h ≤ y → linesWith pixels compression n rows body (h - y) q ≡ found ([], q)
+  unfolding linesWith
   lines-none h y q l = let e : h - y ≡ 0 = omega arith in rw e
 
 -- y lines stand in the frame, and with those that are read from q on they are all the lines
-pub record Drawn (compression w planes rows : ℕ) (body : List ℕ) (h y q : ℕ) (frame : List ℕ) : Type 0 where
+pub record Drawn (pixels : Pixels) (compression n w rows : ℕ) (body : List ℕ) (h y q : ℕ) (frame : List ℕ) : Type 0 where
   pub left : List ℕ
   pub end : ℕ
-  pub to-come : linesBy compression w planes rows body (h - y) q ≡ found (left, end)
-  pub whole : linesBy compression w planes rows body h 0 ≡ found ((take (y * w) frame ++ left), end)
+  pub to-come : linesWith pixels compression n rows body (h - y) q ≡ found (left, end)
+  pub whole : linesWith pixels compression n rows body h 0 ≡ found ((take (y * w) frame ++ left), end)
 
 -- the number of a frame's rows
 pub frame-rows-fit : (h rows : ℕ) → h ≤ 65535 → rows ≤ 9 → Fits w64 (h * rows)
@@ -125,41 +132,41 @@ module _ (y h w len : ℕ) (l : y < h) (e : len ≡ w * h) where
     pub line-to-fits : Fits w64 (y * w + w)
     line-to-fits = omega (arith, line-inside)
 
-module _ (compression w planes rows : ℕ) (body : List ℕ) (h : ℕ) where
-  pub drawn-start : (frame : List ℕ) → IsRead (linesBy compression w planes rows body h 0) →
-      Drawn compression w planes rows body h 0 0 frame
-  drawn-start frame i = go (linesBy compression w planes rows body h 0) refl i
+module _ (pixels : Pixels) (compression n w rows : ℕ) (body : List ℕ) (h : ℕ) where
+  pub drawn-start : (frame : List ℕ) → IsRead (linesWith pixels compression n rows body h 0) →
+      Drawn pixels compression n w rows body h 0 0 frame
+  drawn-start frame i = go (linesWith pixels compression n rows body h 0) refl i
     where
-      go : (v : Read (List ℕ)) → linesBy compression w planes rows body h 0 ≡ v → IsRead v →
-          Drawn compression w planes rows body h 0 0 frame
+      go : (v : Read (List ℕ)) → linesWith pixels compression n rows body h 0 ≡ v → IsRead v →
+          Drawn pixels compression n w rows body h 0 0 frame
       go (found (cs, p)) e i = let z : h - 0 ≡ h = omega arith in record { left = cs; end = p; to-come = rw z e; whole = rw (zero-mul w) e }
       go (refused k p) e i = absurd i
 
-  module _ (y q : ℕ) (frame : List ℕ) (d : Drawn compression w planes rows body h y q frame) where
+  module _ (y q : ℕ) (frame : List ℕ) (d : Drawn pixels compression n w rows body h y q frame) where
     module _ (l : y < h) where
       first :
-          thenRead (lineBy compression w planes rows body q) (λ cs p. thenRead (linesBy compression w planes rows body (h - (y + 1)) p) (λ rest r. found ((cs ++ rest), r)))
+          thenRead (lineWith pixels compression n rows body q) (λ cs p. after cs (linesWith pixels compression n rows body (h - (y + 1)) p))
           ≡ found ((d .left), (d .end))
-      first = rw (lines-once compression w planes rows body h y q l) at (d .to-come)
+      first = rw (lines-once pixels compression n rows body h y q l) at (d .to-come)
 
-      pub drawn-line : IsRead (rowsFrom compression body (rowLength w) rows q)
-      drawn-line = go (rowsFrom compression body (rowLength w) rows q) first
+      pub drawn-line : IsRead (rowsFrom compression body n rows q)
+      drawn-line = go (rowsFrom compression body n rows q) first
         where
           go :
               (v : Read (List (List ℕ))) →
               thenRead (thenRead v (λ rs q. found (
-                (coloursFrom 0 w (take planes rs)),
+                (pixels rs),
                 q,
-              ))) (λ cs p. thenRead (linesBy compression w planes rows body (h - (y + 1)) p) (λ rest r. found ((cs ++ rest), r)))
+              ))) (λ cs p. after cs (linesWith pixels compression n rows body (h - (y + 1)) p))
               ≡ found ((d .left), (d .end)) → IsRead v
           go (found (rs, s)) f = tt
           go (refused k p) f = let z : _≡_ {A = ℕ} 0 1 = cc in absurd (omega arith)
 
       pub drawn-more :
           (p : ℕ) (new tail : List ℕ) → y * w + w ≤ length frame → length new ≡ w →
-          lineBy compression w planes rows body q ≡ found (new, p) →
-          Drawn compression w planes rows body h (y + 1) p (take (y * w) frame ++ (new ++ tail))
-      drawn-more p new tail m n i = go (linesBy compression w planes rows body (h - (y + 1)) p) refl (rw i at first)
+          lineWith pixels compression n rows body q ≡ found (new, p) →
+          Drawn pixels compression n w rows body h (y + 1) p (take (y * w) frame ++ (new ++ tail))
+      drawn-more p new tail m long i = go (linesWith pixels compression n rows body (h - (y + 1)) p) refl (rw i at first)
         where
           so-far : take ((y + 1) * w) (take (y * w) frame ++ (new ++ tail)) ≡ take (y * w) frame ++ new
           so-far =
@@ -170,9 +177,9 @@ module _ (compression w planes rows : ℕ) (body : List ℕ) (h : ℕ) where
               take-at (take (y * w) frame ++ new) tail ((y + 1) * w) b
 
           go :
-              (v : Read (List ℕ)) → linesBy compression w planes rows body (h - (y + 1)) p ≡ v →
-              thenRead v (λ rest r. found ((new ++ rest), r)) ≡ found ((d .left), (d .end)) →
-              Drawn compression w planes rows body h (y + 1) p (take (y * w) frame ++ (new ++ tail))
+              (v : Read (List ℕ)) → linesWith pixels compression n rows body (h - (y + 1)) p ≡ v →
+              after new v ≡ found ((d .left), (d .end)) →
+              Drawn pixels compression n w rows body h (y + 1) p (take (y * w) frame ++ (new ++ tail))
           go (found (rest, r)) u f =
               let x : d .left ≡ new ++ rest = sym (one-value f) in
               let z : d .end ≡ r = sym (one-place f) in
@@ -184,15 +191,15 @@ module _ (compression w planes rows : ℕ) (body : List ℕ) (h : ℕ) where
               }
           go (refused k s) u f = let z : _≡_ {A = ℕ} 0 1 = cc in absurd (omega arith)
 
-    pub drawn-end : y ≤ h → h ≤ y → length frame ≡ w * h → linesBy compression w planes rows body h 0 ≡ found (frame, q)
+    pub drawn-end : y ≤ h → h ≤ y → length frame ≡ w * h → linesWith pixels compression n rows body h 0 ≡ found (frame, q)
     drawn-end a b l =
         let none : _≡_ {A = Read (List ℕ)} (found ([], q)) (found (d .left, d .end)) =
-        rw (lines-none compression w planes rows body h y q b) at (d .to-come) in
+        rw (lines-none pixels compression n rows body h y q b) at (d .to-come) in
         let x : d .left ≡ [] = sym (one-value none) in
         let z : d .end ≡ q = sym (one-place none) in
         let e : y ≡ h = omega arith in
         let u : length frame ≤ y * w = rw e (omega (arith, mul-comm w h)) in
-        let v : linesBy compression w planes rows body h 0 ≡ found ((take (y * w) frame ++ []), q) = rw (x, z) at (d .whole) in
+        let v : linesWith pixels compression n rows body h 0 ≡ found ((take (y * w) frame ++ []), q) = rw (x, z) at (d .whole) in
         v ∙ rw (append-nil (take (y * w) frame), take-all (y * w) frame u)
 
 pub ruleset drawing = (drawn-start, drawn-line, drawn-end, line-inside, line-from-fits, line-to-fits, frame-judged)

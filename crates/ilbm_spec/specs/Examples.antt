@@ -1,4 +1,4 @@
--- 02's Asks 1 and 2, and the table of pictures, computed.
+-- 02's Asks 1, 2 and 4, and the table of pictures, computed.
 -- Ask 1, "the outer PROP ILBM has BMHD and CMAP, the inner PROP ILBM only a CMAP", and the rules beside it: each property
 -- comes from the nearest PROP that has it, of several there the last, and a FORM's own properties stay its own.
 use Prim.Native.Nat.{ℕ}
@@ -15,7 +15,8 @@ use Rattle.ilbm_spec.specs.Contents.{located, own, shared, absent, lastN
 use Rattle.ilbm_spec.specs.Contents.{contentsFrom, contentsOf}
 use Rattle.ilbm_spec.specs.declared.BitmapHeader.{BitmapHeader}
 use Rattle.ilbm_spec.specs.Pictures.{headerIn, wrongSize, fieldsRefusal, headerRefusal, pictureRefusal}
-use Rattle.ilbm_spec.specs.Rows.{Read, rowsFrom, colourBy, coloursFrom, linesBy, lineInBody, frameInBody}
+use Rattle.ilbm_spec.specs.Rows.{Read, rowsFrom, colourBy, coloursFrom, linesWith, lineInBody, frameInBody}
+use Rattle.ilbm_spec.specs.Shapes.{opaque, shapeBy, Shaped, shaped, shapeLineInBody, shapeFrameInBody}
 use Rattle.ilbm_spec.specs.Table.{pictureRow, pictureRows, rowsFor, rowNumbers, tableNumbers, tableAfter}
 
 -- data by which a chunk is known
@@ -130,5 +131,33 @@ alone =
 
 body-alone :
     alone ≡ found (1 ∷ 0 ∷ [], 2) ∷ found (1 ∷ 0 ∷ [], 0) ∷ refused 24 0 ∷ refused 24 0 ∷ refused 24 0 ∷ []
-unfolding fieldsRefusal rowsFrom coloursFrom colourBy linesBy plainRow
+unfolding fieldsRefusal rowsFrom coloursFrom colourBy linesWith plainRow
 body-alone = refl
+
+-- Ask 4: 01's three pixels with a mask row that has the first two; all three, those of the mask, and all but colour 2; a frame of one line;
+-- 44 for masking 3, but after 28, and before 26, which a line from the BODY's end gives.
+abbrev threeShaped : ℕ → ℕ → ℕ → ℕ → Read Shaped
+threeShaped masking start room shapeRoom =
+    shapeLineInBody (0xA0 ∷ 0x00 ∷ 0x60 ∷ 0x00 ∷ 0xC0 ∷ 0x00 ∷ []) 3 2 masking 0 2 start room shapeRoom
+
+abbrev shapes : List (Read Shaped)
+shapes =
+    threeShaped 0 0 3 3 ∷
+    threeShaped 1 0 3 3 ∷
+    threeShaped 2 0 3 3 ∷
+    shapeFrameInBody (0xA0 ∷ 0x00 ∷ 0x60 ∷ 0x00 ∷ 0xC0 ∷ 0x00 ∷ []) 3 1 2 1 0 2 3 3 ∷
+    threeShaped 3 7 3 2 ∷
+    threeShaped 3 6 3 2 ∷
+    threeShaped 3 6 2 3 ∷
+    threeShaped 3 6 3 3 ∷
+    threeShaped 2 6 3 3 ∷ []
+
+which-pixels :
+    shapes ≡
+    found (shaped (1 ∷ 2 ∷ 3 ∷ []) (1 ∷ 1 ∷ 1 ∷ []), 4) ∷
+    found (shaped (1 ∷ 2 ∷ 3 ∷ []) (1 ∷ 1 ∷ 0 ∷ []), 6) ∷
+    found (shaped (1 ∷ 2 ∷ 3 ∷ []) (1 ∷ 0 ∷ 1 ∷ []), 4) ∷
+    found (shaped (1 ∷ 2 ∷ 3 ∷ []) (1 ∷ 1 ∷ 0 ∷ []), 0) ∷
+    refused 29 0 ∷ refused 28 0 ∷ refused 28 0 ∷ refused 44 0 ∷ refused 26 6 ∷ []
+unfolding fieldsRefusal rowsFrom coloursFrom colourBy linesWith plainRow opaque shapeBy
+which-pixels = refl

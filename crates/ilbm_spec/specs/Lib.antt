@@ -4,5 +4,6 @@ pub mod Examples
 pub mod Pictures
 pub mod Palette
 pub mod Rows
+pub mod Shapes
 pub mod Table
 pub mod laws

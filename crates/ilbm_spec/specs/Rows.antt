@@ -1,6 +1,6 @@
 -- 01 "Rows": the scan line and the frame of a picture.
 use Prim.Native.Nat.{ℕ, zero, suc, _+_, _-_, _*_, _/_, _%_, _^_}
-use mathlib.Core.Bool.{not}
+use mathlib.Core.Bool.{Bool, not}
 use mathlib.Core.List.{List, [], _∷_, _++_}
 use lib.Dec.{ltb, eqb}
 use lib.ListN.{length, getD, take}
@@ -20,8 +20,11 @@ abbrev pub rowLength : ℕ → ℕ
 rowLength w = 2 * ((w + 15) / 16)
 
 -- "A scan line is one row for each plane, plane 0 first, then a mask row if masking is 1"
+abbrev pub maskRows : ℕ → ℕ
+maskRows masking = pick (eqb masking 1) 1 0
+
 abbrev pub rowsInLine : ℕ → ℕ → ℕ
-rowsInLine planes masking = planes + pick (eqb masking 1) 1 0
+rowsInLine planes masking = planes + maskRows masking
 
 -- What reading comes to: a value and the next place, or the number and place of a refusal.
 abbrev pub Read : Type 0 → Type 0
@@ -63,41 +66,59 @@ unfoldable pub coloursFrom : ℕ → ℕ → List (List ℕ) → List ℕ
 coloursFrom x zero planes = []
 coloursFrom x (suc n) planes = colourBy 1 x planes ∷ coloursFrom (suc x) n planes
 
--- A scan line of so many rows, from a place of the BODY: the colour numbers and the next place. The mask row "must be sound, and is
--- stepped over".
-abbrev pub lineBy : ℕ → ℕ → ℕ → ℕ → List ℕ → ℕ → Read (List ℕ)
-lineBy compression w planes rows body at =
-    thenRead (rowsFrom compression body (rowLength w) rows at) (λ planeRows q. found (coloursFrom 0 w (take planes planeRows), q))
+-- What is made of the plane rows of a scan line, and the colour numbers as the first of it: the mask row "must be sound, and is stepped
+-- over".
+abbrev pub Pixels : Type 0
+Pixels = List (List ℕ) → List ℕ
+
+abbrev pub colourNumbers : ℕ → ℕ → Pixels
+colourNumbers w planes planeRows = coloursFrom 0 w (take planes planeRows)
+
+-- a scan line of so many rows of n bytes, from a place of the BODY: what is made of them, and the next place
+abbrev pub lineWith : Pixels → ℕ → ℕ → ℕ → List ℕ → ℕ → Read (List ℕ)
+lineWith pixels compression n rows body at = thenRead (rowsFrom compression body n rows at) (λ planeRows q. found (pixels planeRows, q))
 
 -- so many scan lines, one after the other
-unfoldable pub linesBy : ℕ → ℕ → ℕ → ℕ → List ℕ → ℕ → ℕ → Read (List ℕ)
-linesBy compression w planes rows body zero at = found ([], at)
-linesBy compression w planes rows body (suc lines) at =
-    thenRead (lineBy compression w planes rows body at) (λ cs q.
-    thenRead (linesBy compression w planes rows body lines q) (λ rest r. found ((cs ++ rest), r)))
+unfoldable pub linesWith : Pixels → ℕ → ℕ → ℕ → List ℕ → ℕ → ℕ → Read (List ℕ)
+linesWith pixels compression n rows body zero at = found ([], at)
+linesWith pixels compression n rows body (suc lines) at =
+    thenRead (lineWith pixels compression n rows body at) (λ cs q.
+    thenRead (linesWith pixels compression n rows body lines q) (λ rest r. found ((cs ++ rest), r)))
+
+-- the same of colour numbers
+abbrev pub lineBy : ℕ → ℕ → ℕ → ℕ → List ℕ → ℕ → Read (List ℕ)
+lineBy compression w planes rows body at = lineWith (colourNumbers w planes) compression (rowLength w) rows body at
+
+abbrev pub linesBy : ℕ → ℕ → ℕ → ℕ → List ℕ → ℕ → ℕ → Read (List ℕ)
+linesBy compression w planes rows body lines at = linesWith (colourNumbers w planes) compression (rowLength w) rows body lines at
 
 -- "with the leftover BODY bytes counted": of a BODY of n bytes, instead of the place after the last line
-abbrev pub leftover : ℕ → Read (List ℕ) → Read (List ℕ)
-leftover n (found (cs, q)) = found (cs, n - q)
+abbrev pub leftover : {A : Type 0} → ℕ → Read A → Read A
+leftover n (found (a, q)) = found (a, n - q)
 leftover n (refused k p) = refused k p
 
--- A scan line of a BODY, by its header's numbers, for a lent row of `room` bytes. 29: "start place beyond the BODY's end"; 28: "lent row
--- not exactly w bytes"; then 27 and 26. "A scan line is read from a place in the BODY and returns the next place".
+-- 29: "start place beyond the BODY's end"
+abbrev pub startInside : {A : Type 0} → List ℕ → ℕ → Read A → Read A
+startInside body start line = pick (ltb (length body) start) (refused 29 0) line
+
+-- 28: "lent row not exactly w bytes, or lent frame not w times h"
+abbrev pub ifLent : {A : Type 0} → Bool → Read A → Read A
+ifLent right rows = pick (not right) (refused 28 0) rows
+
+-- A scan line of a BODY, by its header's numbers, for a lent row of `room` bytes: 29, 28, then 27 and 26. "A scan line is read from a
+-- place in the BODY and returns the next place".
 abbrev pub bodyLine : List ℕ → ℕ → ℕ → ℕ → ℕ → ℕ → ℕ → Read (List ℕ)
 bodyLine body w planes masking compression start room =
-    pick (ltb (length body) start) (refused 29 0)
-    (pick (not (eqb room w)) (refused 28 0)
-    (lineBy compression w planes (rowsInLine planes masking) body start))
+    startInside body start (ifLent (eqb room w) (lineBy compression w planes (rowsInLine planes masking) body start))
 
--- A frame likewise. 28: "lent frame not w times h"; then 27 and 26. "a whole frame is h scan lines from place 0, with the leftover BODY
--- bytes counted"
+-- A frame likewise: 28, then 27 and 26. "a whole frame is h scan lines from place 0, with the leftover BODY bytes counted"
 abbrev pub bodyFrame : List ℕ → ℕ → ℕ → ℕ → ℕ → ℕ → ℕ → Read (List ℕ)
 bodyFrame body w h planes masking compression room =
-    pick (not (eqb room (w * h))) (refused 28 0)
+    ifLent (eqb room (w * h))
     (leftover (length body) (linesBy compression w planes (rowsInLine planes masking) body h 0))
 
 -- Rows of a BODY by itself, with the header's fields as numbers: 41, 42, 43 or 24 for these fields, and otherwise what is read.
-abbrev pub onFields : ℕ → Read (List ℕ) → Read (List ℕ)
+abbrev pub onFields : {A : Type 0} → ℕ → Read A → Read A
 onFields refusal rows = pick (eqb refusal 0) rows (refused refusal 0)
 
 -- A scan line of any bytes as a BODY; it is one row of its picture, so of the three that may not be 0 it has w and the planes.
@@ -110,11 +131,11 @@ frameInBody body w h planes masking compression room =
     onFields (fieldsRefusal planes masking compression (emptyFields w h planes)) (bodyFrame body w h planes masking compression room)
 
 -- Rows are asked of a picture: 25 for no BODY, and otherwise what `rows` says of its header and its BODY.
-abbrev pub onBody : List Located → (List ℕ → Read (List ℕ)) → Read (List ℕ)
+abbrev pub onBody : {A : Type 0} → List Located → (List ℕ → Read A) → Read A
 onBody [] rows = refused 25 0
 onBody (body ∷ others) rows = rows (body .content)
 
-abbrev pub askRows : Viewed → (BitmapHeader → List ℕ → Read (List ℕ)) → Read (List ℕ)
+abbrev pub askRows : {A : Type 0} → Viewed → (BitmapHeader → List ℕ → Read A) → Read A
 askRows (found c) rows = onBody (c .bodies) (λ body. rows (headerIn (dataOf (c .bmhd))) body)
 askRows (refused k p) rows = refused k p
 
@@ -129,8 +150,8 @@ abbrev pub lineAnswer : {A : Type 0} → Read A → LineAnswer
 lineAnswer (found (a, q)) = Next q
 lineAnswer (refused k p) = Refused k p
 
-abbrev pub frameAnswer : Read (List ℕ) → FrameAnswer
-frameAnswer (found (cs, n)) = Leftover n
+abbrev pub frameAnswer : {A : Type 0} → Read A → FrameAnswer
+frameAnswer (found (a, n)) = Leftover n
 frameAnswer (refused k p) = Frame-refused k p
 
 abbrev pub bytesAfter : Read (List ℕ) → List ℕ → List ℕ

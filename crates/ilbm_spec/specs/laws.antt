@@ -2,3 +2,4 @@ pub mod Ignored
 pub mod Moved
 pub mod Pictures
 pub mod Rows
+pub mod Shapes

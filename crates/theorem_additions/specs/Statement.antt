@@ -25,7 +25,8 @@ use Rattle.ilbm_spec.specs.declared.TableAnswer.the-variants.{Refused as Table-
 use Rattle.ilbm_spec.specs.Contents.{movedContent}
 use Rattle.ilbm_spec.specs.Pictures.{Viewed, viewOf, pictureOf}
 use Rattle.ilbm_spec.specs.Palette.{paletteAnswer, Extent, paletteExtent}
-use Rattle.ilbm_spec.specs.Rows.{lineOf, frameOf, lineAnswer, frameAnswer, bytesAfter}
+use Rattle.ilbm_spec.specs.Rows.{Read, lineOf, frameOf, lineAnswer, frameAnswer, bytesAfter}
+use Rattle.ilbm_spec.specs.Shapes.{Shaped, shapeLineOf, shapeFrameOf, coloursAfter, shapeAfter}
 use Rattle.ilbm_spec.specs.Table.{PropertyRow, BodyRow, PictureRow, tableOf, tableAnswer, tableAfter}
 use Rattle.theorem_additions.specs.Additions.{Addition, treeAfter, fileAfter, MayAddAll, movedBy, addedHeaders, Renaming, renamed}
 use Rattle.theorem_additions.specs.Additions.{lowest}
@@ -100,20 +101,42 @@ abbrev pub movedTable : (ℕ → ℕ) → Found (List PictureRow) → Found (Lis
 movedTable f (found rs) = found (movedRows f rs)
 movedTable f (refused k p) = refused k p
 
--- A call with a lent row, frame or table: what it tells, and what it leaves there.
+-- What a call tells of this, and what it leaves in the lent row, frame or table, or in the two of a call that gives the shape.
+abbrev pub lineTold : Read (List ℕ) → List ℕ → LineAnswer × List ℕ
+lineTold x row = (lineAnswer x, bytesAfter x row)
+
+abbrev pub frameTold : Read (List ℕ) → List ℕ → FrameAnswer × List ℕ
+frameTold x frame = (frameAnswer x, bytesAfter x frame)
+
+abbrev pub shapeLineTold : Read Shaped → List ℕ → List ℕ → LineAnswer × List ℕ × List ℕ
+shapeLineTold x row shape = (lineAnswer x, coloursAfter x row, shapeAfter x shape)
+
+abbrev pub shapeFrameTold : Read Shaped → List ℕ → List ℕ → FrameAnswer × List ℕ × List ℕ
+shapeFrameTold x frame shape = (frameAnswer x, coloursAfter x frame, shapeAfter x shape)
+
+abbrev pub tableTold : Found (List PictureRow) → List ℕ → TableAnswer × List ℕ
+tableTold x table = (tableAnswer x, tableAfter x table)
+
+-- The calls.
 abbrev pub lineCall : List ℕ → ℕ → ℕ → List ℕ → LineAnswer × List ℕ
-lineCall s i start row = (lineAnswer (lineOf s i start (length row)), bytesAfter (lineOf s i start (length row)) row)
+lineCall s i start row = lineTold (lineOf s i start (length row)) row
 
 abbrev pub frameCall : List ℕ → ℕ → List ℕ → FrameAnswer × List ℕ
-frameCall s i frame = (frameAnswer (frameOf s i (length frame)), bytesAfter (frameOf s i (length frame)) frame)
+frameCall s i frame = frameTold (frameOf s i (length frame)) frame
+
+abbrev pub shapeLineCall : List ℕ → ℕ → ℕ → List ℕ → List ℕ → LineAnswer × List ℕ × List ℕ
+shapeLineCall s i start row shape = shapeLineTold (shapeLineOf s i start (length row) (length shape)) row shape
+
+abbrev pub shapeFrameCall : List ℕ → ℕ → List ℕ → List ℕ → FrameAnswer × List ℕ × List ℕ
+shapeFrameCall s i frame shape = shapeFrameTold (shapeFrameOf s i (length frame) (length shape)) frame shape
 
 abbrev pub tableCall : List ℕ → List ℕ → TableAnswer × List ℕ
-tableCall s table = (tableAnswer (tableOf s (length table)), tableAfter (tableOf s (length table)) table)
+tableCall s table = tableTold (tableOf s (length table)) table
 
 -- Every call on every picture answers as before. What any call is made from, `viewOf`, is the same but for the places of its chunks; and
--- so are properties with origins, the palette and where it lies, a scan line from any place and the frame, into any lent row or frame;
--- refusals with their places. The table of pictures has as many rows, or is refused, as before, for any room; every place that it tells
--- moves by the bytes put before it, and nothing else.
+-- so are properties with origins, the palette and where it lies, a scan line from any place and the frame, into any lent row or frame, and
+-- with their shapes into any two; refusals with their places. The table of pictures has as many rows, or is refused, as before, for any
+-- room; every place that it tells moves by the bytes put before it, and nothing else.
 pub record SameAnswers (f g : List ℕ) (move : ℕ → ℕ) : Type 0 where
   pub views : (i : ℕ) → viewOf g i ≡ movedView move (viewOf f i)
   pub pictures : (i : ℕ) → pictureOf g i ≡ movedAnswer move (pictureOf f i)
@@ -121,6 +144,8 @@ pub record SameAnswers (f g : List ℕ) (move : ℕ → ℕ) : Type 0 where
   pub extents : (i : ℕ) → paletteExtent g i ≡ movedExtent move (paletteExtent f i)
   pub lines : (i start : ℕ) (row : List ℕ) → lineCall g i start row ≡ lineCall f i start row
   pub frames : (i : ℕ) (frame : List ℕ) → frameCall g i frame ≡ frameCall f i frame
+  pub shape-lines : (i start : ℕ) (row shape : List ℕ) → shapeLineCall g i start row shape ≡ shapeLineCall f i start row shape
+  pub shape-frames : (i : ℕ) (frame shape : List ℕ) → shapeFrameCall g i frame shape ≡ shapeFrameCall f i frame shape
   pub tables : (room : ℕ) → tableOf g room ≡ movedTable move (tableOf f room)
   pub table-answers : (room : ℕ) → tableAnswer (tableOf g room) ≡ tableAnswer (tableOf f room)
 
@@ -133,6 +158,8 @@ pub record AllRefused (g : List ℕ) (p : ℕ) : Type 0 where
   pub extents : (i : ℕ) → paletteExtent g i ≡ record { from = 0; to = 0 }
   pub lines : (i start : ℕ) (row : List ℕ) → lineCall g i start row ≡ (Line-refused 3 p, row)
   pub frames : (i : ℕ) (frame : List ℕ) → frameCall g i frame ≡ (Frame-refused 3 p, frame)
+  pub shape-lines : (i start : ℕ) (row shape : List ℕ) → shapeLineCall g i start row shape ≡ (Line-refused 3 p, row, shape)
+  pub shape-frames : (i : ℕ) (frame shape : List ℕ) → shapeFrameCall g i frame shape ≡ (Frame-refused 3 p, frame, shape)
   pub tables : (table : List ℕ) → tableCall g table ≡ (Table-refused 3 p, table)
 
 -- the renamings put version names over added headers

@@ -24,6 +24,7 @@ use Rattle.byterun_pack.specs.laws.Packed as Packing
 use Rattle.ilbm_spec.specs.declared.BitmapHeader.{BitmapHeader}
 use Rattle.ilbm_spec.specs.declared.TableAnswer.the-variants.{Pictures}
 use Rattle.ilbm_spec.specs.Table.{tableOf, tableAnswer, tableAfter}
+use Rattle.ilbm_spec.specs.laws.Shapes as Shapes
 use Rattle.theorem_table.specs.ByTable.{ByTable, RefusedBoth}
 use Rattle.theorem_table.specs.Theorem as Table
 use Rattle.write_picture.specs.declared.WriteAnswer.the-variants.{Written}
@@ -78,6 +79,10 @@ table-answers-as-by-number = Table.by-table
 pub table-refused-as-by-number : (s : List ℕ) (k p : ℕ) → readFile s ≡ refused k p → RefusedBoth s k p
 table-refused-as-by-number = Table.refused-both
 
+-- Where a line or a frame is given with its shape, the colours and the next place or leftover are those of the call without it.
+pub shape-beside-colours : Shapes.ShapeBesideColours
+shape-beside-colours = Shapes.shape-beside-colours
+
 -- A packed row unpacks to the row, from any place of any BODY, and grows by at most one byte per started 128.
 pub packed-unpacks : (row : List ℕ) → Packs (packed row) row
 packed-unpacks = Packing.packed-unpacks
@@ -85,17 +90,20 @@ packed-unpacks = Packing.packed-unpacks
 pub packed-short : (row : List ℕ) → length (packed row) ≤ mostFor (length row)
 packed-short = Packing.packed-short
 
--- What is written reads back, with an empty default palette: the same fields but pad1, the same palette and frame.
+-- What is written reads back, with an empty default palette: the same fields but pad1, the same palette and frame, and
+-- the shape as the masking says of the frame and the shape that was handed in.
 pub written-reads-back :
-    (b : BitmapHeader) (palette frame out : List ℕ) (n : ℕ) → InRange b → writeOf b palette frame (length out) ≡ Written n →
-    RoundTrip.ReadsBack (take n (outAfter (writeOf b palette frame (length out)) (pictureFile b palette frame) out)) b palette frame
+    (b : BitmapHeader) (palette frame shape out : List ℕ) (n : ℕ) → InRange b → writeOf b palette frame shape (length out) ≡ Written n →
+    RoundTrip.ReadsBack (take n (outAfter (writeOf b palette frame shape (length out)) (pictureFile b palette frame shape) out))
+    b palette frame shape
 written-reads-back = RoundTrip.round-trip
 
 -- So it does by its table of pictures, in any lent table with room for one.
 pub written-reads-back-by-table :
-    (b : BitmapHeader) (palette frame out : List ℕ) (n : ℕ) → InRange b → writeOf b palette frame (length out) ≡ Written n →
+    (b : BitmapHeader) (palette frame shape out : List ℕ) (n : ℕ) → InRange b → writeOf b palette frame shape (length out) ≡ Written n →
     (old : List ℕ) → 30 ≤ length old →
-    Tables.ReadsBackByTable (take n (outAfter (writeOf b palette frame (length out)) (pictureFile b palette frame) out)) old b palette frame
+    Tables.ReadsBackByTable (take n (outAfter (writeOf b palette frame shape (length out)) (pictureFile b palette frame shape) out)) old
+    b palette frame shape
 written-reads-back-by-table = Tables.written
 
 -- Demand 3. Whatever a later writer adds, list of additions and all: the file is still accepted, every call on every picture

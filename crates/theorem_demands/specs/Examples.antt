@@ -22,7 +22,7 @@ use Rattle.ilbm_spec.specs.Rows.{Read, rowRead, rowsFrom, colourBy, coloursFrom
 use Rattle.write_plane_row.specs.Planes.{planeByte, planeRow}
 use Rattle.write_body.specs.Body.{lineRows, bodyLines}
 use Rattle.write_form.specs.File.{headerBytes, pictureFile}
-use Rattle.write_picture.specs.Write.{wrongFields, colourOver, writeOf}
+use Rattle.write_picture.specs.Write.{wrongFields, colourOver, wrongShape, writeOf}
 use Rattle.write_picture.specs.declared.WriteAnswer.the-variants.{Written}
 
 -- FORM, size 4, ILBM
@@ -78,15 +78,20 @@ pub record Table : Type 0 where
   pub equal-129 : packed (replicate 129 0x07) ≡ 0x81 ∷ 0x07 ∷ 0x00 ∷ 0x07 ∷ []
   pub equal-131 : packed (replicate 131 0x07) ≡ 0x81 ∷ 0x07 ∷ 0xFE ∷ 0x07 ∷ []
   pub three-colours : bodyLine (0xA0 ∷ 0x00 ∷ 0x60 ∷ 0x00 ∷ []) 3 2 0 0 0 3 ≡ found (colours, 4)
-  pub written-plain : writeOf (threePixels 0) [] colours 52 ≡ Written 52
-  pub written-packed : writeOf (threePixels 1) [] colours 54 ≡ Written 54
+  pub written-plain : writeOf (threePixels 0) [] colours [] 52 ≡ Written 52
+  pub written-packed : writeOf (threePixels 1) [] colours [] 54 ≡ Written 54
 
 no-header-counts : pictureOf form 0 ≡ Picture-refused 21 0
-unfolding readFile chunkAt run headerOf groupHeaderOf word wellFormed versionName kindOf typeBytes reservedName typeName contentsFrom propertyOf lastNamed bodiesFrom pictureRefusal pickContent
+unfolding
+    readFile chunkAt run headerOf groupHeaderOf word wellFormed versionName kindOf typeBytes reservedName typeName contentsFrom propertyOf
+    lastNamed bodiesFrom pictureRefusal pickContent
 no-header-counts = refl
 
 pub examples : Table
-unfolding readFile chunkAt run headerOf groupHeaderOf propWithin word count wellFormed versionName kindOf typeBytes reservedName typeName unpackRow unpackBy codeOf plainRow packed packBy pieceOf three sameFor plainFor rowsFrom coloursFrom colourBy headerBytes planeByte planeRow lineRows bodyLines pictureFile wrongFields colourOver bytes
+unfolding
+    readFile chunkAt run headerOf groupHeaderOf propWithin word count wellFormed versionName kindOf typeBytes reservedName typeName
+    unpackRow unpackBy codeOf plainRow packed packBy pieceOf three sameFor plainFor rowsFrom coloursFrom colourBy headerBytes planeByte
+    planeRow lineRows bodyLines pictureFile wrongFields colourOver wrongShape bytes
 examples =
     record {
       empty-file = refl;

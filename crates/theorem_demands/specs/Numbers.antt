@@ -53,13 +53,17 @@ ofBodyLine = ofFields ++ (29 ∷ 28 ∷ ofRows)
 abbrev pub ofBodyFrame : List ℕ
 ofBodyFrame = ofFields ++ (28 ∷ ofRows)
 
+-- Ask 4's "44, only where the shape is asked", beside the numbers of the same line or frame without it
+abbrev pub andShape : List ℕ → List ℕ
+andShape numbers = 44 ∷ numbers
+
 -- "a row of 1 to 8,192 bytes (else 31)"; "32, here and everywhere"
 abbrev pub ofPacking : List ℕ
 ofPacking = 31 ∷ 32 ∷ []
 
--- "Refusals in order: 33 .., 34 .., 35 .., 32."
+-- "Refusals in order: 33 .., 34 .., 35 .., 32.", and Ask 4's "45 after 34"
 abbrev pub ofWriting : List ℕ
-ofWriting = 33 ∷ 34 ∷ 35 ∷ 32 ∷ []
+ofWriting = 33 ∷ 34 ∷ 45 ∷ 35 ∷ 32 ∷ []
 
 -- "A refusal returns the number and p (0 for 1, 2, 13 and every later number unless said below)"; "26 and 27 return the place"
 abbrev pub placed : List ℕ

@@ -21,18 +21,19 @@ use Rattle.ilbm_spec.specs.declared.FrameAnswer.the-variants.{Refused as Frame-
 use Rattle.ilbm_spec.specs.Pictures.{pictureOf}
 use Rattle.ilbm_spec.specs.Palette.{paletteAnswer}
 use Rattle.ilbm_spec.specs.Rows.{lineAnswer, lineOf, lineInBody, frameAnswer, frameOf, frameInBody}
+use Rattle.ilbm_spec.specs.Shapes.{shapeLineOf, shapeFrameOf, shapeLineInBody, shapeFrameInBody}
 use Rattle.ilbm_spec.specs.Table.{tableOf, tableAnswer}
 use Rattle.ilbm_spec.specs.declared.TableAnswer.the-variants.{Refused as Pictures-refused}
 use Rattle.byterun_pack.specs.Pack.{packNumber, packOf}
 use Rattle.write_picture.specs.Write.{writeOf}
 use Rattle.write_picture.specs.declared.WriteAnswer.the-variants.{Refused as Write-refused}
 use Rattle.theorem_demands.specs.Numbers.{OneOf, structural, ofRecord, ofData, ofTable, ofCopy, ofPicture, ofLine, ofFrame}
-use Rattle.theorem_demands.specs.Numbers.{ofBodyLine, ofBodyFrame, ofPacking, ofWriting}
+use Rattle.theorem_demands.specs.Numbers.{ofBodyLine, ofBodyFrame, andShape, ofPacking, ofWriting}
 
 -- The exported calls on a file or a chunk each have a line here, those on a picture's properties one together (`ilbm_header`, `ilbm_grab`,
 -- `ilbm_dest`, `ilbm_sprite`, `ilbm_view_mode`): they tell the number and the place of this answer, and 0 where it is no refusal. So do
 -- themselves the calls on a chunk's data, on the palette, of the reader and of the packer. The table of pictures has a line, and so have a
--- scan line and a frame of a BODY by itself.
+-- scan line and a frame of a BODY by itself, and each of the four that gives the shape too.
 pub record Refusals : Type 0 where
   pub check : (s : List ℕ) (k p : ℕ) → checkOf s ≡ Refused k p → OneOf structural k p
   pub clean-copy : (s : List ℕ) (room k p : ℕ) → copyOf s room ≡ Copy-refused k p → OneOf ofCopy k p
@@ -53,6 +54,21 @@ pub record Refusals : Type 0 where
   pub body-frame :
       (body : List ℕ) (w h planes masking compression room k p : ℕ) →
       frameAnswer (frameInBody body w h planes masking compression room) ≡ Frame-refused k p → OneOf ofBodyFrame k p
+  pub shape-line :
+      (s : List ℕ) (i start room shapeRoom k p : ℕ) → lineAnswer (shapeLineOf s i start room shapeRoom) ≡ Line-refused k p →
+      OneOf (andShape ofLine) k p
+  pub shape-frame :
+      (s : List ℕ) (i room shapeRoom k p : ℕ) → frameAnswer (shapeFrameOf s i room shapeRoom) ≡ Frame-refused k p →
+      OneOf (andShape ofFrame) k p
+  pub body-shape-line :
+      (body : List ℕ) (w planes masking compression transparent start room shapeRoom k p : ℕ) →
+      lineAnswer (shapeLineInBody body w planes masking compression transparent start room shapeRoom) ≡ Line-refused k p →
+      OneOf (andShape ofBodyLine) k p
+  pub body-shape-frame :
+      (body : List ℕ) (w h planes masking compression transparent room shapeRoom k p : ℕ) →
+      frameAnswer (shapeFrameInBody body w h planes masking compression transparent room shapeRoom) ≡ Frame-refused k p →
+      OneOf (andShape ofBodyFrame) k p
   pub pack : (row : List ℕ) (room : ℕ) → OneOf (0 ∷ ofPacking) (packNumber (packOf row room)) 0
   pub write :
-      (b : BitmapHeader) (palette frame : List ℕ) (room k : ℕ) → writeOf b palette frame room ≡ Write-refused k → OneOf ofWriting k 0
+      (b : BitmapHeader) (palette frame shape : List ℕ) (room k : ℕ) → writeOf b palette frame shape room ≡ Write-refused k →
+      OneOf ofWriting k 0

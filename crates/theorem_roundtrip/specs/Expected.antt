@@ -2,10 +2,13 @@
 use Prim.Native.Nat.{ℕ}
 use mathlib.Core.List.{List, [], _∷_}
 use lib.IntN.{pos}
+use Rattle.iff_tree.specs.Judge.{found}
 use Rattle.ilbm_spec.specs.declared.Origin.{Origin}
 use Rattle.ilbm_spec.specs.declared.Origin.the-variants.{Own, Absent}
 use Rattle.ilbm_spec.specs.declared.BitmapHeader.{BitmapHeader}
 use Rattle.ilbm_spec.specs.declared.Picture.{Picture}
+use Rattle.ilbm_spec.specs.Rows.{Read}
+use Rattle.ilbm_spec.specs.Shapes.{shapeBy, Shaped, shaped, shapeAsked}
 use Rattle.theorem_roundtrip.specs.Header.{withoutPad}
 
 -- FORM, BMHD and BODY, and CMAP if there is a palette
@@ -34,3 +37,8 @@ pictureFor b palette =
       «view_mode» = 0;
       «view_mode_from» = Absent;
     }
+
+-- the frame call with its shape: for masking 1 the shape that was handed in, for masking 3 "44, only where the shape is asked", and for the
+-- rest what the masking says of the frame
+abbrev pub shapeFor : BitmapHeader → List ℕ → List ℕ → Read Shaped
+shapeFor b frame shape = shapeAsked (b .masking) (found (shaped frame (shapeBy (b .masking) (b .transparent) frame shape), 0))

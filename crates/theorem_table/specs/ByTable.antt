@@ -18,6 +18,7 @@ use Rattle.ilbm_spec.specs.Contents.{Located, located, Property, own, shared, a
 use Rattle.ilbm_spec.specs.Pictures.{u16, headerIn, hotSpotIn, destinationIn, Viewed, viewOf, pictureOf}
 use Rattle.ilbm_spec.specs.Palette.{Answer, paletteAnswer, Extent, paletteExtent}
 use Rattle.ilbm_spec.specs.Rows.{Read, lineInBody, frameInBody, lineOf, frameOf}
+use Rattle.ilbm_spec.specs.Shapes.{Shaped, shapeLineInBody, shapeFrameInBody, shapeLineOf, shapeFrameOf}
 use Rattle.ilbm_spec.specs.Table.{PropertyRow, BodyRow, PictureRow, tableOf}
 
 -- A property's four numbers, from the k-th of a row on.
@@ -93,7 +94,7 @@ abbrev pub extentBy : PictureRow → Extent
 extentBy r = record { from = r .cmap .from; to = r .cmap .to }
 
 -- Rows: the row's refusal, 25 with no BODY, and otherwise what is read of the BODY's part of the file by the header's fields.
-abbrev pub rowsBy : PictureRow → Read (List ℕ) → Read (List ℕ)
+abbrev pub rowsBy : {A : Type 0} → PictureRow → Read A → Read A
 rowsBy r rows = unlessRefused r (pick (eqb (r .body .there) 0) (refused 25 0) rows) refused
 
 abbrev pub scanLineBy : List ℕ → PictureRow → ℕ → ℕ → Read (List ℕ)
@@ -105,6 +106,19 @@ abbrev pub frameBy : List ℕ → PictureRow → ℕ → Read (List ℕ)
 frameBy s r room =
     let b : BitmapHeader = headerBy s r in
     rowsBy r (frameInBody (bodyBy s r) (b .w) (b .h) (b .planes) (b .masking) (b .compression) room)
+
+-- The same with the shape.
+abbrev pub shapeLineBy : List ℕ → PictureRow → ℕ → ℕ → ℕ → Read Shaped
+shapeLineBy s r start room shapeRoom =
+    let b : BitmapHeader = headerBy s r in
+    rowsBy r
+    (shapeLineInBody (bodyBy s r) (b .w) (b .planes) (b .masking) (b .compression) (b .transparent) start room shapeRoom)
+
+abbrev pub shapeFrameBy : List ℕ → PictureRow → ℕ → ℕ → Read Shaped
+shapeFrameBy s r room shapeRoom =
+    let b : BitmapHeader = headerBy s r in
+    rowsBy r
+    (shapeFrameInBody (bodyBy s r) (b .w) (b .h) (b .planes) (b .masking) (b .compression) (b .transparent) room shapeRoom)
 
 -- All that the picture's calls look at, found again: each chunk with its place, which is 8 before its data.
 abbrev pub chunkBy : List ℕ → ℕ → ℕ → Located
@@ -148,8 +162,9 @@ pub record Parts (s : List ℕ) (r : PictureRow) : Type 0 where
   pub body : Part s (r .body .from) (r .body .to)
 
 -- A table that tells so many pictures of the file s gives of each, with the bytes of the file, what the calls by its number tell: all that
--- they look at, and so the properties, the palette and where it lies; with the calls on a BODY by itself each scan line and the frame; each
--- refusal too. There are no more pictures. All parts that it tells lie in the file, and the BMHD of a shown picture has its 20 bytes.
+-- they look at, and so the properties, the palette and where it lies; with the calls on a BODY by itself each scan line and the frame, with
+-- their shapes too; each refusal too. There are no more pictures. All parts that it tells lie in the file, and the BMHD of a shown picture
+-- has its 20 bytes.
 pub record ByTable (s table : List ℕ) (count : ℕ) : Type 0 where
   pub views : (i : ℕ) → i < count → viewBy s (rowAt table i) ≡ viewOf s i
   pub properties : (i : ℕ) → i < count → propertiesBy s (rowAt table i) ≡ pictureOf s i
@@ -157,6 +172,11 @@ pub record ByTable (s table : List ℕ) (count : ℕ) : Type 0 where
   pub extents : (i : ℕ) → i < count → extentBy (rowAt table i) ≡ paletteExtent s i
   pub lines : (i : ℕ) → i < count → (start room : ℕ) → scanLineBy s (rowAt table i) start room ≡ lineOf s i start room
   pub frames : (i : ℕ) → i < count → (room : ℕ) → frameBy s (rowAt table i) room ≡ frameOf s i room
+  pub shape-lines :
+      (i : ℕ) → i < count → (start room shapeRoom : ℕ) →
+      shapeLineBy s (rowAt table i) start room shapeRoom ≡ shapeLineOf s i start room shapeRoom
+  pub shape-frames :
+      (i : ℕ) → i < count → (room shapeRoom : ℕ) → shapeFrameBy s (rowAt table i) room shapeRoom ≡ shapeFrameOf s i room shapeRoom
   pub none : (i : ℕ) → count ≤ i → viewOf s i ≡ refused 20 0
   pub parts : (i : ℕ) → i < count → Parts s (rowAt table i)
   pub headers : (i : ℕ) → i < count → rowAt table i .answer ≡ 0 → length (dataBy s (rowAt table i .bmhd)) ≡ 20

@@ -17,13 +17,14 @@ use Rattle.ilbm_spec.specs.Contents.{Content, contentsOf}
 use Rattle.ilbm_spec.specs.Pictures.{Viewed, judged, viewIn, viewOf, pictureAnswer}
 use Rattle.ilbm_spec.specs.Palette.{answerIn, extentIn}
 use Rattle.ilbm_spec.specs.Rows.{lineRead, frameRead}
+use Rattle.ilbm_spec.specs.Shapes.{shapeLineRead, shapeFrameRead}
 use Rattle.ilbm_spec.specs.Table.{PictureRow, pictureRow, pictureRows, rowsFor, tableOf, tableNumbers, tableAnswer, tableAfter}
-use Rattle.theorem_table.specs.ByTable.{rowAt, dataBy, viewBy, propertiesBy, paletteBy, extentBy, scanLineBy, frameBy, Parts, ByTable}
-use Rattle.theorem_table.specs.ByTable.{RefusedBoth}
+use Rattle.theorem_table.specs.ByTable.{rowAt, dataBy, viewBy, propertiesBy, paletteBy, extentBy, scanLineBy, frameBy, shapeLineBy}
+use Rattle.theorem_table.specs.ByTable.{shapeFrameBy, Parts, ByTable, RefusedBoth}
 use Rattle.theorem_table.specs.laws.Lies.{ContentLies, ContentsLie, file-lies}
 use Rattle.theorem_table.specs.laws.Rows.{count-rows, row-shows, no-more}
 use Rattle.theorem_table.specs.laws.Told.{parts-told, header-told, view-told, properties-told, palette-told, extent-told}
-use Rattle.theorem_table.specs.laws.Told.{line-told, frame-told}
+use Rattle.theorem_table.specs.laws.Told.{line-told, frame-told, shape-line-told, shape-frame-told}
 
 -- What a row and the file tell is what the calls tell of the picture that is seen.
 record Tells (s : List ℕ) (r : PictureRow) (v : Viewed) : Type 0 where
@@ -33,6 +34,8 @@ record Tells (s : List ℕ) (r : PictureRow) (v : Viewed) : Type 0 where
   extent : extentBy r ≡ extentIn v
   line : (start room : ℕ) → scanLineBy s r start room ≡ lineRead v start room
   frame : (room : ℕ) → frameBy s r room ≡ frameRead v room
+  shape-line : (start room shapeRoom : ℕ) → shapeLineBy s r start room shapeRoom ≡ shapeLineRead v start room shapeRoom
+  shape-frame : (room shapeRoom : ℕ) → shapeFrameBy s r room shapeRoom ≡ shapeFrameRead v room shapeRoom
   parts : Parts s r
   header : r .answer ≡ 0 → length (dataBy s (r .bmhd)) ≡ 20
 
@@ -45,6 +48,8 @@ row-tells s c l =
       extent = extent-told s c l;
       line = line-told s c l;
       frame = frame-told s c l;
+      shape-line = shape-line-told s c l;
+      shape-frame = shape-frame-told s c l;
       parts = parts-told s c l;
       header = header-told s c l;
     }
@@ -68,6 +73,8 @@ module _ (s rest : List ℕ) (c : Chunk) (e : readFile s ≡ found c) (l : Conte
         extents = λ i h. one i h .extent;
         lines = λ i h. one i h .line;
         frames = λ i h. one i h .frame;
+        shape-lines = λ i h. one i h .shape-line;
+        shape-frames = λ i h. one i h .shape-frame;
         none = λ i h. let count = count-rows cs in rw e (no-more cs i (omega arith));
         parts = λ i h. one i h .parts;
         headers = λ i h. one i h .header;

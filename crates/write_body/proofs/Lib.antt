@@ -2,3 +2,4 @@ pub mod Body
 pub mod Counting
 pub mod Lines
 pub mod Rows
+pub mod Shapes

@@ -8,7 +8,8 @@ ghost use Rattle.byterun_pack.specs.Pack.{packed};
 ghost use Rattle.byterun_pack.specs.Written.{writtenRow};
 ghost use Rattle.write_plane_row.specs.Planes.{planeRow};
 ghost use Rattle.write_plane_row.specs.Put.{put, Room};
-ghost use Rattle.write_body.specs.Body.{lineRows, bodyBytes};
+ghost use Rattle.ilbm_spec.specs.Rows.{rowLength, maskRows};
+ghost use Rattle.write_body.specs.Body.{lineRows, lineBytes, shapeWidth, bodyBytes};
 
 // The length of a plane row that is packed; the row is made in a buffer of its length.
 fn packed_row_len(line: &[u8], k: usize, n: usize, row: &mut [u8]) -> usize
@@ -116,43 +117,105 @@ fn put_line(
     q
 }
 
+// Whether a scan line has a mask row: 1 or 0.
+fn mask_rows(masking: u8) -> usize
+    ensures is { λ r. ⌜ r ≡ maskRows masking ⌝ }
+    ensures few { λ r. ⌜ r ≤ 1 ⌝ }
+{
+    if masking == 1 {
+        return 1;
+    }
+    0
+}
+
+// How many bytes of the shape belong to a scan line.
+pub fn shape_width(b: BitmapHeader) -> usize
+    ensures is { λ r. ⌜ r ≡ shapeWidth b ⌝ }
+    ensures short { λ r. ⌜ r < 65536 ⌝ }
+{
+    if b.masking == 1 {
+        return b.w as usize;
+    }
+    0
+}
+
+// The length of a plane row.
+fn plane_row_len(w: u16) -> usize
+    ensures is { λ r. ⌜ r ≡ rowLength w ⌝ }
+    ensures short { λ r. ⌜ r ≤ 8192 ⌝ }
+{
+    2 * ((w as usize + 15) / 16)
+}
+
+// The length of a scan line with its mask row.
+fn shaped_line_len(b: BitmapHeader, line: &[u8], shape: &[u8]) -> usize
+    requires { ⌜ b .planes ≤ 8 ⌝ }
+    ensures is { λ r. ⌜ r ≡ length (lineBytes b (now (line .entry)) (now (shape .entry))) ⌝ }
+    ensures short { λ r. ⌜ r ≤ 132096 ⌝ }
+{
+    let n = plane_row_len(b.w);
+    let planes = b.planes as usize;
+    let masks = mask_rows(b.masking);
+    line_len(b.compression, n, line, planes) + line_len(b.compression, n, shape, masks)
+}
+
+// Writes a scan line with its mask row, and tells where it ends.
+fn put_shaped_line(b: BitmapHeader, line: &[u8], shape: &[u8], out: &mut [u8], at: usize) -> usize
+    requires { ⌜ (b .planes ≤ 8) × Room (lineBytes b (now line) (now shape)) (now out) at ⌝ }
+    ensures ends { λ r. ⌜ r ≡ at + length (lineBytes b (now (line .entry)) (now (shape .entry))) ⌝ }
+    ensures bytes { λ _. ⌜ now (out .exit) ≡ put (now (out .entry)) at (lineBytes b (now (line .entry)) (now (shape .entry))) ⌝ }
+{
+    let n = plane_row_len(b.w);
+    let planes = b.planes as usize;
+    let masks = mask_rows(b.masking);
+    let q = put_line(b.compression, n, line, planes, out, at);
+    put_line(b.compression, n, shape, masks, out, q)
+}
+
 // The length of BODY.
-pub fn body_len(b: BitmapHeader, frame: &[u8]) -> usize
-    requires { ⌜ (b .planes ≤ 8) × (length (now frame) ≡ b .h * b .w) ⌝ }
-    ensures is { λ r. ⌜ r ≡ length (bodyBytes b (now (frame .entry))) ⌝ }
+pub fn body_len(b: BitmapHeader, frame: &[u8], shape: &[u8]) -> usize
+    requires { ⌜ (b .planes ≤ 8) × (length (now frame) ≡ b .h * b .w) × (length (now shape) ≡ b .h * shapeWidth b) ⌝ }
+    ensures is { λ r. ⌜ r ≡ length (bodyBytes b (now (frame .entry)) (now (shape .entry))) ⌝ }
     ensures short { λ r. ⌜ r < 4503599627370496 ⌝ }
 {
     let w = b.w as usize;
     let h = b.h as usize;
-    let n = 2 * ((w + 15) / 16);
+    let shape_w = shape_width(b);
     let mut total = 0;
     let mut at = 0;
+    let mut shape_at = 0;
     let mut y = 0;
     while y < h {
         let end = at + w;
-        total = total + line_len(b.compression, n, &frame[at..end], b.planes as usize);
+        let shape_end = shape_at + shape_w;
+        total = total + shaped_line_len(b, &frame[at..end], &shape[shape_at..shape_end]);
         at = end;
+        shape_at = shape_end;
         y += 1;
     }
     total
 }
 
 // Writes BODY's data, and tells where they end.
-pub fn put_body(b: BitmapHeader, frame: &[u8], out: &mut [u8], place: usize) -> usize
-    requires { ⌜ (b .planes ≤ 8) × (length (now frame) ≡ b .h * b .w) × Room (bodyBytes b (now frame)) (now out) place ⌝ }
-    ensures ends { λ r. ⌜ r ≡ place + length (bodyBytes b (now (frame .entry))) ⌝ }
-    ensures bytes { λ _. ⌜ now (out .exit) ≡ put (now (out .entry)) place (bodyBytes b (now (frame .entry))) ⌝ }
+pub fn put_body(b: BitmapHeader, frame: &[u8], shape: &[u8], out: &mut [u8], place: usize) -> usize
+    requires { ⌜ (b .planes ≤ 8) × (length (now frame) ≡ b .h * b .w) × (length (now shape) ≡ b .h * shapeWidth b)
+        × Room (bodyBytes b (now frame) (now shape)) (now out) place ⌝ }
+    ensures ends { λ r. ⌜ r ≡ place + length (bodyBytes b (now (frame .entry)) (now (shape .entry))) ⌝ }
+    ensures bytes { λ _. ⌜ now (out .exit) ≡ put (now (out .entry)) place (bodyBytes b (now (frame .entry)) (now (shape .entry))) ⌝ }
 {
     let w = b.w as usize;
     let h = b.h as usize;
-    let n = 2 * ((w + 15) / 16);
+    let shape_w = shape_width(b);
     let mut q = place;
     let mut at = 0;
+    let mut shape_at = 0;
     let mut y = 0;
     while y < h {
         let end = at + w;
-        q = put_line(b.compression, n, &frame[at..end], b.planes as usize, out, q);
+        let shape_end = shape_at + shape_w;
+        q = put_shaped_line(b, &frame[at..end], &shape[shape_at..shape_end], out, q);
         at = end;
+        shape_at = shape_end;
         y += 1;
     }
     q

@@ -32,11 +32,13 @@ put-step out bs cs before after q l d e f =
     let at : q ≡ 0 + length bs = omega arith in
     f ∙ rw (d, at) (put-put out 0 bs cs (omega arith))
 
-module _ (b : BitmapHeader) (palette frame : List ℕ) (colours body : ℕ) (p : colours ≡ paletteSize (length palette)) (q : body ≡ length (bodyBytes b frame)) where
-  pub file-size : length (pictureFile b palette frame) ≡ 48 + colours + body + body % 2
-  file-size = file-length b palette frame ∙ rw (← p, ← q) (omega arith)
+module _
+    (b : BitmapHeader) (palette frame shape : List ℕ) (colours body : ℕ) (p : colours ≡ paletteSize (length palette))
+    (q : body ≡ length (bodyBytes b frame shape)) where
+  pub file-size : length (pictureFile b palette frame shape) ≡ 48 + colours + body + body % 2
+  file-size = file-length b palette frame shape ∙ rw (← p, ← q) (omega arith)
 
-  module _ (out : List ℕ) (room : Room (pictureFile b palette frame) out 0) where
+  module _ (out : List ℕ) (room : Room (pictureFile b palette frame shape) out 0) where
     pub file-fits : 48 + colours + body + body % 2 ≤ length out
     file-fits = let s = file-size in let f = room .fits in omega arith
 
@@ -45,15 +47,16 @@ module _ (b : BitmapHeader) (palette frame : List ℕ) (colours body : ℕ) (p :
 
     pub file-put :
         (o₁ o₂ o₃ o₄ o₅ o₆ : List ℕ) (end : ℕ) → o₁ ≡ put out 0 (chunkHead FORM (40 + colours + body + body % 2)) → o₂ ≡ put o₁ 8 (typeAndHeader b) →
-        o₃ ≡ put o₂ 40 (paletteChunk palette) → o₄ ≡ put o₃ (40 + colours) (chunkHead BODY body) → o₅ ≡ put o₄ (48 + colours) (bodyBytes b frame) →
-        end ≡ 48 + colours + length (bodyBytes b frame) → o₆ ≡ put o₅ end (replicate (body % 2) 0) → o₆ ≡ put out 0 (pictureFile b palette frame)
+        o₃ ≡ put o₂ 40 (paletteChunk palette) → o₄ ≡ put o₃ (40 + colours) (chunkHead BODY body) →
+        o₅ ≡ put o₄ (48 + colours) (bodyBytes b frame shape) → end ≡ 48 + colours + length (bodyBytes b frame shape) →
+        o₆ ≡ put o₅ end (replicate (body % 2) 0) → o₆ ≡ put out 0 (pictureFile b palette frame shape)
     file-put o₁ o₂ o₃ o₄ o₅ o₆ end e₁ e₂ e₃ e₄ e₅ e e₆ =
         let fits = file-fits in
         let A₁ : List ℕ = chunkHead FORM (40 + colours + body + body % 2) in
         let A₂ : List ℕ = typeAndHeader b in
         let A₃ : List ℕ = paletteChunk palette in
         let A₄ : List ℕ = chunkHead BODY body in
-        let A₅ : List ℕ = bodyBytes b frame in
+        let A₅ : List ℕ = bodyBytes b frame shape in
         let A₆ : List ℕ = replicate (body % 2) 0 in
         let n₂ : length A₂ ≡ 32 = ap (λ (k : ℕ). suc (suc (suc (suc (suc (suc (suc (suc (suc (suc (suc (suc k)))))))))))) (header-length b) in
         let n₃ : length A₃ ≡ colours = palette-length palette ∙ sym p in
@@ -68,7 +71,7 @@ module _ (b : BitmapHeader) (palette frame : List ℕ) (colours body : ℕ) (p :
         let s₅ : o₅ ≡ put out 0 ((((A₁ ++ A₂) ++ A₃) ++ A₄) ++ A₅) = put-step out (((A₁ ++ A₂) ++ A₃) ++ A₄) A₅ o₄ o₅ (48 + colours) (omega arith) s₄ (sym l₄) e₅ in
         let s₆ : o₆ ≡ put out 0 (((((A₁ ++ A₂) ++ A₃) ++ A₄) ++ A₅) ++ A₆) =
         put-step out ((((A₁ ++ A₂) ++ A₃) ++ A₄) ++ A₅) A₆ o₅ o₆ end (omega arith) s₅ (e ∙ sym l₅) e₆ in
-        s₆ ∙ ap (λ (l : List ℕ). put out 0 l) (joined A₂ A₃ A₅ ∙ sym (file-parts b palette frame ∙ rw (← p, ← q)))
+        s₆ ∙ ap (λ (l : List ℕ). put out 0 l) (joined A₂ A₃ A₅ ∙ sym (file-parts b palette frame shape ∙ rw (← p, ← q)))
       where
         joined :
             (h c d : List ℕ) →

@@ -43,8 +43,8 @@ paletteThen (x ∷ xs) F = leaf CMAP (x ∷ xs) (padOf (x ∷ xs)) F
 abbrev pub membersFor : BitmapHeader → List ℕ → List ℕ → Chunks
 membersFor b palette body = leaf BMHD (headerBytes b) [] (paletteThen palette (leaf BODY body (padOf body) none))
 
-abbrev pub pictureForm : BitmapHeader → List ℕ → List ℕ → Chunk
-pictureForm b palette frame = aGroup FORM ILBM (membersFor b palette (bodyBytes b frame))
+abbrev pub pictureForm : BitmapHeader → List ℕ → List ℕ → List ℕ → Chunk
+pictureForm b palette frame shape = aGroup FORM ILBM (membersFor b palette (bodyBytes b frame shape))
 
-unfoldable pub pictureFile : BitmapHeader → List ℕ → List ℕ → List ℕ
-pictureFile b palette frame = bytes (before (pictureForm b palette frame) none)
+unfoldable pub pictureFile : BitmapHeader → List ℕ → List ℕ → List ℕ → List ℕ
+pictureFile b palette frame shape = bytes (before (pictureForm b palette frame shape) none)

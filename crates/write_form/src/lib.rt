@@ -8,7 +8,7 @@ ghost use Prim.Native.Nat.{_+_, _*_, _/_, _%_, _≤_, _<_};
 ghost use mathlib.Core.List.{[]};
 ghost use lib.ListN.{length, replicate};
 ghost use Rattle.iff_chunk.specs.Chunks.{putWord};
-ghost use Rattle.write_body.specs.Body.{bodyBytes};
+ghost use Rattle.write_body.specs.Body.{shapeWidth, bodyBytes};
 ghost use Rattle.write_plane_row.specs.Put.{put, Room};
 ghost use Rattle.write_form.specs.File.{unsigned, headerBytes, pictureFile};
 ghost use Rattle.write_form.specs.Parts.{chunkHead, paletteChunk, typeAndHeader, paletteSize};
@@ -161,26 +161,37 @@ pub struct FileSizes {
 }
 
 // The lengths of the file that is to be written, before a byte of it is.
-pub fn file_sizes(b: BitmapHeader, palette: &[u8], frame: &[u8]) -> FileSizes
-    requires { ⌜ (b .planes ≤ 8) × (length (now palette) ≤ 768) × (length (now frame) ≡ b .h * b .w) ⌝ }
-    ensures body { λ r. ⌜ r .body ≡ length (bodyBytes b (now (frame .entry))) ⌝ }
-    ensures file { λ r. ⌜ r .file ≡ length (pictureFile b (now (palette .entry)) (now (frame .entry))) ⌝ }
+pub fn file_sizes(b: BitmapHeader, palette: &[u8], frame: &[u8], shape: &[u8]) -> FileSizes
+    requires { ⌜ (b .planes ≤ 8) × (length (now palette) ≤ 768) × (length (now frame) ≡ b .h * b .w)
+        × (length (now shape) ≡ b .h * shapeWidth b) ⌝ }
+    ensures body { λ r. ⌜ r .body ≡ length (bodyBytes b (now (frame .entry)) (now (shape .entry))) ⌝ }
+    ensures file { λ r. ⌜ r .file ≡ length (pictureFile b (now (palette .entry)) (now (frame .entry)) (now (shape .entry))) ⌝ }
 {
-    let body = body_len(b, frame);
+    let body = body_len(b, frame, shape);
     let file = 48 + palette_size(palette.len()) + body + body % 2;
     FileSizes { body, file }
 }
 
 // Writes the file, whose BODY has so many bytes, to the start of out.
-pub fn put_file(b: BitmapHeader, palette: &[u8], frame: &[u8], body: usize, out: &mut [u8])
-    requires { ⌜ (b .planes ≤ 8) × (length (now palette) ≤ 768) × (length (now frame) ≡ b .h * b .w) × (body ≡ length (bodyBytes b (now frame))) × Room (pictureFile b (now palette) (now frame)) (now out) 0 ⌝ }
-    ensures { λ _. ⌜ now (out .exit) ≡ put (now (out .entry)) 0 (pictureFile b (now (palette .entry)) (now (frame .entry))) ⌝ }
+pub fn put_file(
+    b: BitmapHeader,
+    palette: &[u8],
+    frame: &[u8],
+    shape: &[u8],
+    body: usize,
+    out: &mut [u8],
+)
+    requires { ⌜ (b .planes ≤ 8) × (length (now palette) ≤ 768) × (length (now frame) ≡ b .h * b .w)
+        × (length (now shape) ≡ b .h * shapeWidth b) × (body ≡ length (bodyBytes b (now frame) (now shape)))
+        × Room (pictureFile b (now palette) (now frame) (now shape)) (now out) 0 ⌝ }
+    ensures { λ _. ⌜ now (out .exit)
+        ≡ put (now (out .entry)) 0 (pictureFile b (now (palette .entry)) (now (frame .entry)) (now (shape .entry))) ⌝ }
 {
     let colours = palette_size(palette.len());
     put_head(FORM, 40 + colours + body + body % 2, out, 0);
     put_header(b, out);
     put_palette(palette, out);
     put_head(BODY, body, out, 40 + colours);
-    let end = put_body(b, frame, out, 48 + colours);
+    let end = put_body(b, frame, shape, out, 48 + colours);
     put_pad(body, out, end);
 }

@@ -11,10 +11,11 @@ use native.Mathlib.Omega.{arith}
 use Rattle.iff_name.specs.Name.{either}
 use Rattle.ilbm_spec.specs.declared.BitmapHeader.{BitmapHeader}
 use Rattle.write_plane_row.specs.Put.{put, Room}
+use Rattle.write_body.specs.Body.{shapeWidth}
 use Rattle.write_form.specs.File.{pictureFile}
 use Rattle.write_picture.specs.declared.WriteAnswer.{WriteAnswer}
 use Rattle.write_picture.specs.declared.WriteAnswer.the-variants.{Written, Refused}
-use Rattle.write_picture.specs.Write.{wrongFields, colourOver, writeOf, outAfter}
+use Rattle.write_picture.specs.Write.{wrongFields, colourOver, wrongShape, answerFor, writeOf, outAfter}
 
 either-false : (a c : Bool) → either a c ≡ false → (a ≡ false) × (c ≡ false)
 either-false true c e = (e, let z : _≡_ {A = ℕ} 0 1 = cc in absurd (omega arith))
@@ -28,20 +29,36 @@ fields-right b palette frame t d e =
     let a₂ = either-false (eqb (b .h) 0) _ (a₁ .1) in
     let a₃ = either-false (eqb (b .planes) 0) _ (a₂ .1) in
     let a₄ = either-false (ltb 8 (b .planes)) _ (a₃ .1) in
-    let a₅ = either-false (eqb (b .masking) 1) _ (a₄ .1) in
-    let a₆ = either-false (ltb 3 (b .masking)) _ (a₅ .1) in
-    let a₇ = either-false (ltb 1 (b .compression)) _ (a₆ .1) in
-    let a₈ = either-false (not (eqb (palette % 3) 0)) _ (a₇ .1) in
-    let a₉ = either-false (ltb 768 palette) _ (a₈ .1) in
-    (ltb-false 8 (b .planes) (a₄ .0), ltb-false 768 palette (a₉ .0), eqb-true frame (b .w * b .h) (not-false (eqb frame (b .w * b .h)) (a₉ .1)) ∙ mul-comm (b .w) (b .h))
+    let a₅ = either-false (ltb 3 (b .masking)) _ (a₄ .1) in
+    let a₆ = either-false (ltb 1 (b .compression)) _ (a₅ .1) in
+    let a₇ = either-false (not (eqb (palette % 3) 0)) _ (a₆ .1) in
+    let a₈ = either-false (ltb 768 palette) _ (a₇ .1) in
+    let whole = eqb-true frame (b .w * b .h) (not-false (eqb frame (b .w * b .h)) (a₈ .1)) in
+    (ltb-false 8 (b .planes) (a₄ .0), ltb-false 768 palette (a₈ .0), whole ∙ mul-comm (b .w) (b .h))
 
-module _ (b : BitmapHeader) (palette frame out : List ℕ) (t : Bool) (d : t ≡ wrongFields b (length palette) (length frame)) where
+pub shape-right : (b : BitmapHeader) (shape : List ℕ) (t : Bool) → t ≡ wrongShape b shape → t ≡ false → length shape ≡ b .h * shapeWidth b
+unfolding wrongShape
+shape-right b shape t d e =
+    let a = either-false (not (eqb (length shape) (shapeWidth b * b .h))) _ (sym d ∙ e) in
+    let n : ℕ = shapeWidth b * b .h in
+    eqb-true (length shape) n (not-false (eqb (length shape) n) (a .0)) ∙ mul-comm (shapeWidth b) (b .h)
+
+pub room-0 : (file out : List ℕ) (size : ℕ) → length file ≡ size → size ≤ 16777216 → size ≤ length out → Room file out 0
+room-0 file out size z g h = record { fits = omega arith; short = omega arith }
+
+module _ (b : BitmapHeader) (palette frame shape out : List ℕ) (t : Bool) (d : t ≡ wrongFields b (length palette) (length frame)) where
+  abbrev file : List ℕ
+  file = pictureFile b palette frame shape
+
+  abbrev told : WriteAnswer
+  told = writeOf b palette frame shape (length out)
+
   -- what is told and what stands in the buffer
   abbrev pub Answers : WriteAnswer → List ℕ → Type 0
-  Answers a after = (a ≡ writeOf b palette frame (length out)) × (after ≡ outAfter (writeOf b palette frame (length out)) (pictureFile b palette frame) out)
+  Answers a after = (a ≡ told) × (after ≡ outAfter told file out)
 
-  answered : (a : WriteAnswer) (after : List ℕ) → writeOf b palette frame (length out) ≡ a → after ≡ outAfter a (pictureFile b palette frame) out → Answers a after
-  answered a after e f = (sym e, f ∙ ap (λ (x : WriteAnswer). outAfter x (pictureFile b palette frame) out) (sym e))
+  answered : (a : WriteAnswer) (after : List ℕ) → told ≡ a → after ≡ outAfter a file out → Answers a after
+  answered a after e f = (sym e, f ∙ ap (λ (x : WriteAnswer). outAfter x file out) (sym e))
 
   pub answer-33 : t ≡ true → Answers (Refused 33) out
   answer-33 e = answered (Refused 33) out (rw (sym d ∙ e)) refl
@@ -53,18 +70,22 @@ module _ (b : BitmapHeader) (palette frame out : List ℕ) (t : Bool) (d : t ≡
     pub answer-34 : u ≡ true → Answers (Refused 34) out
     answer-34 f = answered (Refused 34) out (rw (sym d ∙ e, sym colours-answered ∙ f)) refl
 
-    module _ (f : u ≡ false) (size : ℕ) (z : length (pictureFile b palette frame) ≡ size) where
-      pub answer-35 : 16777216 < size → Answers (Refused 35) out
-      answer-35 g = answered (Refused 35) out (rw (sym d ∙ e, sym colours-answered ∙ f, z, lt-ltb 16777216 size g)) refl
+    module _ (f : u ≡ false) (r : Bool) (x : r ≡ wrongShape b shape) where
+      pub answer-45 : r ≡ true → Answers (Refused 45) out
+      answer-45 y = answered (Refused 45) out (rw (sym d ∙ e, sym colours-answered ∙ f, sym x ∙ y)) refl
 
-      module _ (g : size ≤ 16777216) where
-        pub answer-32 : length out < size → Answers (Refused 32) out
-        answer-32 h = answered (Refused 32) out (rw (sym d ∙ e, sym colours-answered ∙ f, z, le-ltb 16777216 size g, lt-ltb (length out) size h)) refl
+      module _ (y : r ≡ false) (size : ℕ) (z : length file ≡ size) where
+        may : told ≡ answerFor size (length out)
+        may = rw (sym d ∙ e, sym colours-answered ∙ f, sym x ∙ y, z)
 
-        pub room-0 : size ≤ length out → Room (pictureFile b palette frame) out 0
-        room-0 h = record { fits = omega arith; short = omega arith }
+        pub answer-35 : 16777216 < size → Answers (Refused 35) out
+        answer-35 g = answered (Refused 35) out (may ∙ rw (lt-ltb 16777216 size g)) refl
 
-        pub answer-0 : (after : List ℕ) → size ≤ length out → after ≡ put out 0 (pictureFile b palette frame) → Answers (Written size) after
-        answer-0 after h w =
-            let y : 0 + length (pictureFile b palette frame) ≡ size = omega arith in
-            answered (Written size) after (rw (sym d ∙ e, sym colours-answered ∙ f, z, le-ltb 16777216 size g, le-ltb (length out) size h)) (w ∙ rw y)
+        module _ (g : size ≤ 16777216) where
+          pub answer-32 : length out < size → Answers (Refused 32) out
+          answer-32 h = answered (Refused 32) out (may ∙ rw (le-ltb 16777216 size g, lt-ltb (length out) size h)) refl
+
+          pub answer-0 : (after : List ℕ) → size ≤ length out → after ≡ put out 0 file → Answers (Written size) after
+          answer-0 after h w =
+              let n : 0 + length file ≡ size = omega arith in
+              answered (Written size) after (may ∙ rw (le-ltb 16777216 size g, le-ltb (length out) size h)) (w ∙ rw n)

@@ -1,4 +1,4 @@
--- The tests of 33, each by itself since any of them is enough, and the search for a colour number that is too high.
+-- The tests of 33 and 45, each by itself since any of them is enough, and the search for a colour number that is too high.
 use Prim.Native.Nat.{ℕ, _+_, _*_, _-_, _%_, _^_, _≤_, _<_}
 use mathlib.Core.Path.{_≡_, refl, sym, _∙_}
 use mathlib.Core.Bool.{Bool, true, false, not}
@@ -14,8 +14,9 @@ use native.Mathlib.Numerals.{add-one}
 use native.Mathlib.Omega.{arith}
 use Rattle.iff_name.specs.Name.{either}
 use Rattle.ilbm_spec.specs.declared.BitmapHeader.{BitmapHeader}
+use Rattle.write_body.specs.Body.{shapeWidth}
 use Rattle.write_body.proofs.Lines.{power-more}
-use Rattle.write_picture.specs.Write.{wrongFields, colourOver}
+use Rattle.write_picture.specs.Write.{wrongFields, colourOver, wrongShape}
 
 either-true : (a : Bool) → either a true ≡ true
 either-true true = refl
@@ -38,10 +39,6 @@ module _ (b : BitmapHeader) (palette frame : ℕ) where
   unfolding wrongFields
   many-planes e = sym (simp (lt-ltb 8 (b .planes) e, either-true))
 
-  pub mask-plane : b .masking ≡ 1 → true ≡ wrongFields b palette frame
-  unfolding wrongFields
-  mask-plane e = sym (simp (eq-eqb (b .masking) 1 e, either-true))
-
   pub wrong-masking : 3 < b .masking → true ≡ wrongFields b palette frame
   unfolding wrongFields
   wrong-masking e = sym (simp (lt-ltb 3 (b .masking) e, either-true))
@@ -59,22 +56,31 @@ module _ (b : BitmapHeader) (palette frame : ℕ) where
   long-palette e = sym (simp (lt-ltb 768 palette e, either-true))
 
   pub wrong-frame :
-      (b .w ≡ 0 → ⊥) → (b .h ≡ 0 → ⊥) → (b .planes ≡ 0 → ⊥) → b .planes ≤ 8 → (b .masking ≡ 1 → ⊥) → b .masking ≤ 3 → b .compression ≤ 1 →
+      (b .w ≡ 0 → ⊥) → (b .h ≡ 0 → ⊥) → (b .planes ≡ 0 → ⊥) → b .planes ≤ 8 → b .masking ≤ 3 → b .compression ≤ 1 →
       palette % 3 ≡ 0 → palette ≤ 768 → not (eqb frame (b .w * b .h)) ≡ wrongFields b palette frame
   unfolding wrongFields
-  wrong-frame e₁ e₂ e₃ e₄ e₅ e₆ e₇ e₈ e₉ =
+  wrong-frame e₁ e₂ e₃ e₄ e₅ e₆ e₇ e₈ =
       sym
       (simp (
         ne-eqb (b .w) 0 e₁,
         ne-eqb (b .h) 0 e₂,
         ne-eqb (b .planes) 0 e₃,
         le-ltb 8 (b .planes) e₄,
-        ne-eqb (b .masking) 1 e₅,
-        le-ltb 3 (b .masking) e₆,
-        le-ltb 1 (b .compression) e₇,
-        eq-eqb (palette % 3) 0 e₈,
-        le-ltb 768 palette e₉,
+        le-ltb 3 (b .masking) e₅,
+        le-ltb 1 (b .compression) e₆,
+        eq-eqb (palette % 3) 0 e₇,
+        le-ltb 768 palette e₈,
       ))
+
+-- the tests of 45, where u is the shape's width
+module _ (b : BitmapHeader) (shape : List ℕ) (u : ℕ) (d : u ≡ shapeWidth b) where
+  pub wrong-length : (length shape ≡ u * b .h → ⊥) → true ≡ wrongShape b shape
+  unfolding wrongShape
+  wrong-length e = sym (rw (← d, ne-eqb (length shape) (u * b .h) e))
+
+  pub wrong-bits : (r : Bool) → length shape ≡ u * b .h → r ≡ colourOver 2 shape → r ≡ wrongShape b shape
+  unfolding wrongShape
+  wrong-bits r e f = f ∙ sym (rw (← d, eq-eqb (length shape) (u * b .h) e))
 
 pub product-fits : (a b : ℕ) → a < 65536 → b < 65536 → Fits w64 (a * b)
 product-fits a b h k =

@@ -1,12 +1,13 @@
 // The picture writer: the length is settled before a byte is written.
 use ilbm_spec::BitmapHeader;
+use write_body::shape_width;
 use write_form::file_sizes;
 use write_form::put_file;
 ghost use mathlib.Core.Path.{_≡_};
 ghost use Prim.Native.Nat.{_^_, _≤_};
 ghost use lib.ListN.{length};
 ghost use Rattle.write_form.specs.File.{pictureFile};
-ghost use Rattle.write_picture.specs.Write.{wrongFields, colourOver, writeOf, outAfter};
+ghost use Rattle.write_picture.specs.Write.{wrongFields, colourOver, wrongShape, writeOf, outAfter};
 
 // The length of the written file, or the number of a refusal.
 pub enum WriteAnswer {
@@ -28,9 +29,6 @@ fn wrong_fields(b: BitmapHeader, palette: usize, frame: usize) -> bool
         return true;
     }
     if 8 < b.planes {
-        return true;
-    }
-    if b.masking == 1 {
         return true;
     }
     if 3 < b.masking {
@@ -83,15 +81,29 @@ fn colour_over(most: usize, frame: &[u8]) -> bool
     false
 }
 
+// 45: a shape of another length than the masking wants, or with a byte over 1.
+fn wrong_shape(b: BitmapHeader, shape: &[u8]) -> bool
+    ensures { λ r. ⌜ r ≡ wrongShape b (now (shape .entry)) ⌝ }
+{
+    if shape.len() != shape_width(b) * (b.h as usize) {
+        return true;
+    }
+    colour_over(2, shape)
+}
+
 // Writes one picture as a FORM ILBM. A refusal leaves out as it was, as do bytes after the file.
 pub fn write_picture(
     header: BitmapHeader,
     palette: &[u8],
     frame: &[u8],
+    shape: &[u8],
     out: &mut [u8],
 ) -> WriteAnswer
-    ensures is { λ r. ⌜ r ≡ writeOf header (now (palette .entry)) (now (frame .entry)) (length (now (out .entry))) ⌝ }
-    ensures bytes { λ _. ⌜ now (out .exit) ≡ outAfter (writeOf header (now (palette .entry)) (now (frame .entry)) (length (now (out .entry)))) (pictureFile header (now (palette .entry)) (now (frame .entry))) (now (out .entry)) ⌝ }
+    ensures is { λ r. ⌜ r
+        ≡ writeOf header (now (palette .entry)) (now (frame .entry)) (now (shape .entry)) (length (now (out .entry))) ⌝ }
+    ensures bytes { λ _. ⌜ now (out .exit)
+        ≡ outAfter (writeOf header (now (palette .entry)) (now (frame .entry)) (now (shape .entry)) (length (now (out .entry))))
+        (pictureFile header (now (palette .entry)) (now (frame .entry)) (now (shape .entry))) (now (out .entry)) ⌝ }
 {
     if wrong_fields(header, palette.len(), frame.len()) {
         return WriteAnswer::Refused(33);
@@ -99,7 +111,10 @@ pub fn write_picture(
     if colour_over(power(header.planes as usize), frame) {
         return WriteAnswer::Refused(34);
     }
-    let sizes = file_sizes(header, palette, frame);
+    if wrong_shape(header, shape) {
+        return WriteAnswer::Refused(45);
+    }
+    let sizes = file_sizes(header, palette, frame, shape);
     let size = sizes.file;
     if 16777216 < size {
         return WriteAnswer::Refused(35);
@@ -107,6 +122,6 @@ pub fn write_picture(
     if out.len() < size {
         return WriteAnswer::Refused(32);
     }
-    put_file(header, palette, frame, sizes.body, out);
+    put_file(header, palette, frame, shape, sizes.body, out);
     WriteAnswer::Written(size)
 }

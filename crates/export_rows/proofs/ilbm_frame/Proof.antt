@@ -1,7 +1,7 @@
 -- What is told is the answer of `whole_frame`, which settles the bytes that were lent.
 use mathlib.Core.Path.{ap, _∙_}
 use borrow.Author.Needs.{needs}
-use Rattle.export_rows.specs.Rows.{frameNumbers}
+use Rattle.export_row_numbers.specs.Rows.{frameNumbers}
 use Rattle.export_rows.proofs.ilbm_frame.Statement.{statement}
 use Rattle.export_rows.proofs.ilbm_frame.Tie as tie
 

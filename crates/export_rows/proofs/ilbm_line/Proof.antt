@@ -1,7 +1,7 @@
 -- What is told is the answer of `scan_line`, which settles the bytes that were lent.
 use mathlib.Core.Path.{ap, _∙_}
 use borrow.Author.Needs.{needs}
-use Rattle.export_rows.specs.Rows.{lineNumbers}
+use Rattle.export_row_numbers.specs.Rows.{lineNumbers}
 use Rattle.export_rows.proofs.ilbm_line.Statement.{statement}
 use Rattle.export_rows.proofs.ilbm_line.Tie as tie
 

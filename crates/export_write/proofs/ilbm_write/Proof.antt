@@ -18,24 +18,24 @@ same-length c = search needs
 
 returns : tie.Need-returns
 returns c =
-    let start = c .before .before .before .before .before .before .before .before .before .before in
+    let start = c .before .before .before .before .before .before .before .before .before .before .before in
     let a = start .args in
     let f = start .fits in
     let h = header-handed _ _ _ _ _ _ _ _ _ _ _ _ (f .x) (f .y) (f .page-width) (f .page-height) in
     let w = c .before .before .before .before .before .write-picture .ensures in
-    picture-written _ _ h (a .palette .now) (a .frame .now) (a .out .now) _ _ (w .0) (w .1) _ (c .before .v .given .1)
+    picture-written _ _ h (a .palette .now) (a .frame .now) (a .shape .now) (a .out .now) _ _ (w .0) (w .1) _ (c .before .v .given .1)
 
 same-length-2 : tie.Need-same-length-2
 same-length-2 c = search needs
 
 returns-2 : tie.Need-returns-2
 returns-2 c =
-    let start = c .before .before .before .before .before .before .before .before .before .before in
+    let start = c .before .before .before .before .before .before .before .before .before .before .before in
     let a = start .args in
     let f = start .fits in
     let h = header-handed _ _ _ _ _ _ _ _ _ _ _ _ (f .x) (f .y) (f .page-width) (f .page-height) in
     let w = c .before .before .before .before .before .write-picture .ensures in
-    picture-refused _ _ h (a .palette .now) (a .frame .now) (a .out .now) _ _ (w .0) (w .1) _ (c .before .v2 .given .1)
+    picture-refused _ _ h (a .palette .now) (a .frame .now) (a .shape .now) (a .out .now) _ _ (w .0) (w .1) _ (c .before .v2 .given .1)
 
 pub ilbm-write-spec : {M : Type 1} → statement M
 ilbm-write-spec =

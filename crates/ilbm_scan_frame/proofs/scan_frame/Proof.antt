@@ -1,6 +1,7 @@
 -- `scan_frame` meets its contract: a frame whose rows were all judged sound may be written, and a refusal leaves the frame.
 use native.Mathlib.Omega.{arith}
 use borrow.Author.Needs.{needs}
+use Rattle.ilbm_spec.specs.Rows.{colourNumbers}
 use Rattle.ilbm_scan_frame.proofs.Frame.{frame-judged, frame-rows-fit, frame-read, frame-refusal}
 use Rattle.ilbm_scan_frame.proofs.scan_frame.Statement.{statement}
 use Rattle.ilbm_scan_frame.proofs.scan_frame.Tie as tie
@@ -40,7 +41,7 @@ returns c =
     let rows = a .before .before .before .row-count .ensures .0 in
     let judged = a .before .before .judge-rows .ensures in
     let written = c .before .before .write-frame .ensures in
-    frame-read _ _ (s .planes) _ _ (s .h) _ n _ judged _ rows (s .frame .now) _ _ _ (a .judged .given .1) written
+    frame-read (colourNumbers (s .w) (s .planes)) _ _ _ _ (s .h) _ n _ judged _ rows (s .frame .now) _ _ _ (a .judged .given .1) written
 
 returns-2 : tie.Need-returns-2
 returns-2 c =
@@ -49,7 +50,7 @@ returns-2 c =
     let n = a .before .before .before .before .row-length .ensures .0 in
     let rows = a .before .before .before .row-count .ensures .0 in
     let judged = a .before .before .judge-rows .ensures in
-    frame-refusal _ _ (s .planes) _ _ (s .h) _ n _ judged _ rows (s .frame .now) _ _ (a .judged2 .given .1)
+    frame-refusal (colourNumbers (s .w) (s .planes)) _ _ _ _ (s .h) _ n _ judged _ rows (s .frame .now) _ _ (a .judged2 .given .1)
 
 pub scan-frame-spec : {M : Type 1} → statement M
 scan-frame-spec =

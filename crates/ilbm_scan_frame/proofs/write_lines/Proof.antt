@@ -6,13 +6,15 @@ use native.Mathlib.Omega.{arith}
 use lib.ListN.{length}
 use borrow.Author.Needs.{needs}
 use borrow.Rule.Slice.PartMut.{same-len-mid}
+use Rattle.ilbm_spec.specs.Rows.{rowLength, colourNumbers}
 use Rattle.ilbm_scan_frame.proofs.Frame.{Drawn, drawing, part-long, line-inside, drawn-line, drawn-more, drawn-end}
 use Rattle.ilbm_scan_frame.proofs.write_lines.Statement.{statement}
 use Rattle.ilbm_scan_frame.proofs.write_lines.Tie as tie
 
 abbrev Inv-loop : tie.InvT-loop
 Inv-loop table body w h planes rows compression buffer₀ frame₀ q₀ y₀ buffer frame q y =
-    (y ≤ h) × (length buffer ≡ length buffer₀) × (length frame ≡ length frame₀) × Drawn compression w planes rows body h y q frame
+    (y ≤ h) × (length buffer ≡ length buffer₀) × (length frame ≡ length frame₀) ×
+    Drawn (colourNumbers w planes) compression (rowLength w) w rows body h y q frame
 
 abbrev μ-loop : tie.MeasureT-loop
 μ-loop table body w h planes rows compression buffer₀ frame₀ q₀ y₀ buffer frame q y = h - y
@@ -47,7 +49,7 @@ part-write-line-by-end c = room (c .before)
 write-line-by-requires : tie.Need-write-line-by-requires Inv-loop μ-loop
 write-line-by-requires c κs =
     let b = c .before .before in
-    let line = drawn-line _ _ _ _ _ _ _ _ _ (b .before .loop .inv .3) (b .loop-test .taken) in
+    let line = drawn-line _ _ _ _ _ _ _ _ _ _ (b .before .loop .inv .3) (b .loop-test .taken) in
     (search needs, (search needs, ((search needs, part-long _ _ _ (room b)), line)))
 
 add-y : tie.Need-add-y Inv-loop μ-loop
@@ -68,7 +70,7 @@ loop-again c =
       search needs,
       l .kept .1 .1 .1 .1 .1 .1 .1 .0 ∙ b .before .loop .inv .1,
       same-len-mid from (from + w - from) frame new kept ∙ b .before .loop .inv .2,
-      drawn-more _ _ _ _ _ _ _ _ frame (b .before .loop .inv .3) (b .loop-test .taken) (l .result) new _ (room b) (kept ∙
+      drawn-more _ _ _ _ _ _ _ _ _ frame (b .before .loop .inv .3) (b .loop-test .taken) (l .result) new _ (room b) (kept ∙
           part-long from w frame (room b)) (l .ensures),
     )
 
@@ -81,7 +83,7 @@ same-length-2 c = search (drawing, needs)
 returns : tie.Need-returns Inv-loop μ-loop
 returns c =
     let a = c .before in
-    drawn-end _ _ _ _ _ _ _ _ _ (a .loop .inv .3) (a .loop .inv .0) (c .loop-test .left) (a .loop .inv .2 ∙
+    drawn-end _ _ _ _ _ _ _ _ _ _ (a .loop .inv .3) (a .loop .inv .0) (c .loop-test .left) (a .loop .inv .2 ∙
     a .before .before .before .before .pre .1 .1 .0 .1)
 
 pub write-lines-spec : {M : Type 1} → statement M

@@ -19,12 +19,14 @@ use Rattle.ilbm_spec.specs.Contents.{movedBodies, movedContent}
 use Rattle.ilbm_spec.specs.Pictures.{dataOf, counts, headerIn, wrongSize, pictureRefusal, Viewed, judged, pickContent, viewIn, viewOf}
 use Rattle.ilbm_spec.specs.Pictures.{originOf, pictureFrom, pictureAnswer, paletteFrom}
 use Rattle.ilbm_spec.specs.Palette.{answerIn, extentOf, extentFrom, extentIn}
-use Rattle.ilbm_spec.specs.Rows.{Read, onBody, askRows, lineRead, frameRead, lineOf, frameOf, lineAnswer, frameAnswer, bytesAfter}
+use Rattle.ilbm_spec.specs.Rows.{Read, onBody, askRows, lineRead, frameRead, lineOf, frameOf}
+use Rattle.ilbm_spec.specs.Shapes.{Shaped, shapeLineRead, shapeFrameRead, shapeLineOf, shapeFrameOf}
 use Rattle.ilbm_spec.specs.laws.Moved.{mapContents}
 use Rattle.ilbm_spec.specs.Table.{propertyRow, bodyRow, PictureRow, rowWith, withoutParts, pictureRow, pictureRows}
 use Rattle.ilbm_spec.specs.Table.{rowsFor, tableOf, tableAnswer}
 use Rattle.theorem_additions.specs.Statement.{movedView, movedOrigin, movedAnswer, movedExtent, movedPropertyRow, movedBodyRow}
-use Rattle.theorem_additions.specs.Statement.{movedRow, movedRows, movedTable, SameAnswers}
+use Rattle.theorem_additions.specs.Statement.{movedRow, movedRows, movedTable, lineTold, frameTold, shapeLineTold, shapeFrameTold}
+use Rattle.theorem_additions.specs.Statement.{SameAnswers}
 
 module _ (move : ℕ → ℕ) where
   counts-moved : (q : Property) → counts (movedProperty move q) ≡ counts q
@@ -93,12 +95,12 @@ module _ (move : ℕ → ℕ) where
   extent-moved (found c) = extent-from (c .cmap)
   extent-moved (refused k p) = refl
 
-  on-moved : (bs : List Located) (rows : List ℕ → Read (List ℕ)) → onBody (movedBodies move bs) rows ≡ onBody bs rows
+  on-moved : {A : Type 0} (bs : List Located) (rows : List ℕ → Read A) → onBody (movedBodies move bs) rows ≡ onBody bs rows
   unfolding movedBodies
   on-moved [] rows = refl
   on-moved (b ∷ bs) rows = refl
 
-  rows-moved : (v : Viewed) (rows : BitmapHeader → List ℕ → Read (List ℕ)) → askRows (movedView move v) rows ≡ askRows v rows
+  rows-moved : {A : Type 0} (v : Viewed) (rows : BitmapHeader → List ℕ → Read A) → askRows (movedView move v) rows ≡ askRows v rows
   rows-moved (found c) rows =
       on-moved (c .bodies) (λ body. rows (headerIn (dataOf (movedProperty move (c .bmhd)))) body) ∙
       ap (λ (d : List ℕ). onBody (c .bodies) (λ body. rows (headerIn d) body)) (data-moved (c .bmhd))
@@ -176,8 +178,10 @@ module _ (move : ℕ → ℕ) where
     pictures = λ i. ap pictureAnswer (view i) ∙ picture-moved (viewOf f i);
     palettes = λ i default. ap (λ (v : Viewed). answerIn v default) (view i) ∙ palette-moved (viewOf f i) default;
     extents = λ i. ap extentIn (view i) ∙ extent-moved (viewOf f i);
-    lines = λ i start row. ap (λ (x : Read (List ℕ)). (lineAnswer x, bytesAfter x row)) (line i start (length row));
-    frames = λ i frame. ap (λ (x : Read (List ℕ)). (frameAnswer x, bytesAfter x frame)) (whole i (length frame));
+    lines = λ i start row. ap (λ (x : Read (List ℕ)). lineTold x row) (line i start (length row));
+    frames = λ i frame. ap (λ (x : Read (List ℕ)). frameTold x frame) (whole i (length frame));
+    shape-lines = λ i start row shape. ap (λ (x : Read Shaped). shapeLineTold x row shape) (shape-line i start (length row) (length shape));
+    shape-frames = λ i frame shape. ap (λ (x : Read Shaped). shapeFrameTold x frame shape) (shape-whole i (length frame) (length shape));
     tables = table;
     table-answers = λ room. ap tableAnswer (table room) ∙ answer-moved (tableOf f room);
   }
@@ -194,6 +198,13 @@ module _ (move : ℕ → ℕ) where
 
       whole : (i room : ℕ) → frameOf g i room ≡ frameOf f i room
       whole i room = ap (λ (v : Viewed). frameRead v room) (view i) ∙ rows-moved (viewOf f i) _
+
+      shape-line : (i start room shapeRoom : ℕ) → shapeLineOf g i start room shapeRoom ≡ shapeLineOf f i start room shapeRoom
+      shape-line i start room shapeRoom =
+          ap (λ (v : Viewed). shapeLineRead v start room shapeRoom) (view i) ∙ rows-moved (viewOf f i) _
+
+      shape-whole : (i room shapeRoom : ℕ) → shapeFrameOf g i room shapeRoom ≡ shapeFrameOf f i room shapeRoom
+      shape-whole i room shapeRoom = ap (λ (v : Viewed). shapeFrameRead v room shapeRoom) (view i) ∙ rows-moved (viewOf f i) _
 
       table : (room : ℕ) → tableOf g room ≡ movedTable move (tableOf f room)
       table room = ap (rowsFor room) eg ∙ table-moved room c c′ e ∙ ap (λ (r : Found Chunk). movedTable move (rowsFor room r)) (sym ef)

@@ -27,12 +27,10 @@ use Rattle.iff_grammar.specs.laws.Headers.{header-leaf, header-group, new-secon
 use Rattle.iff_grammar.specs.laws.Complete.{group-complete, run-complete}
 use Rattle.ilbm_spec.specs.Pictures.{viewIn, pictureAnswer}
 use Rattle.ilbm_spec.specs.Palette.{answerIn, extentIn}
-use Rattle.ilbm_spec.specs.declared.LineAnswer.{LineAnswer}
-use Rattle.ilbm_spec.specs.declared.FrameAnswer.{FrameAnswer}
-use Rattle.ilbm_spec.specs.declared.TableAnswer.{TableAnswer}
-use Rattle.ilbm_spec.specs.Rows.{Read, lineRead, frameRead, lineAnswer, frameAnswer, bytesAfter}
-use Rattle.ilbm_spec.specs.Table.{PictureRow, rowsFor, tableAnswer, tableAfter}
-use Rattle.theorem_additions.specs.Statement.{AllRefused}
+use Rattle.ilbm_spec.specs.Rows.{lineRead, frameRead}
+use Rattle.ilbm_spec.specs.Shapes.{shapeLineRead, shapeFrameRead}
+use Rattle.ilbm_spec.specs.Table.{rowsFor}
+use Rattle.theorem_additions.specs.Statement.{lineTold, frameTold, shapeLineTold, shapeFrameTold, tableTold, AllRefused}
 use Rattle.theorem_additions.specs.laws.Bytes.{pass}
 use Rattle.theorem_additions.specs.laws.Places.{HeaderAt, none-case, leaf-cases, group-cases, header-low}
 use Rattle.theorem_additions.specs.laws.Renamed.{version-formed, same-word, same-front}
@@ -207,15 +205,6 @@ module _ (s g : List ℕ) (m : ℕ) (same : take m g ≡ take m s) (version : ve
       let chunk = group-stops 15 g 0 Outermost 0 (length g) (kindOf n) z 3 m head inner in
       rw (le-ltb 16777216 (length g) short′, le-ltb (length g) 4 (omega arith), name, not-version, x .1, chunk)
 
-abbrev lineIn : Read (List ℕ) → List ℕ → LineAnswer × List ℕ
-lineIn x row = (lineAnswer x, bytesAfter x row)
-
-abbrev frameIn : Read (List ℕ) → List ℕ → FrameAnswer × List ℕ
-frameIn x frame = (frameAnswer x, bytesAfter x frame)
-
-abbrev tableIn : Found (List PictureRow) → List ℕ → TableAnswer × List ℕ
-tableIn x table = (tableAnswer x, tableAfter x table)
-
 -- a file that is refused gives its refusal to every call
 pub all-refused : (g : List ℕ) (p : ℕ) → readFile g ≡ refused 3 p → AllRefused g p
 all-refused g p e = record {
@@ -224,7 +213,11 @@ all-refused g p e = record {
   pictures = λ i. ap (λ (r : Found Chunk). pictureAnswer (viewIn r i)) e;
   palettes = λ i default. ap (λ (r : Found Chunk). answerIn (viewIn r i) default) e;
   extents = λ i. ap (λ (r : Found Chunk). extentIn (viewIn r i)) e;
-  lines = λ i start row. ap (λ (r : Found Chunk). lineIn (lineRead (viewIn r i) start (length row)) row) e;
-  frames = λ i frame. ap (λ (r : Found Chunk). frameIn (frameRead (viewIn r i) (length frame)) frame) e;
-  tables = λ table. ap (λ (r : Found Chunk). tableIn (rowsFor (length table) r) table) e;
+  lines = λ i start row. ap (λ (r : Found Chunk). lineTold (lineRead (viewIn r i) start (length row)) row) e;
+  frames = λ i frame. ap (λ (r : Found Chunk). frameTold (frameRead (viewIn r i) (length frame)) frame) e;
+  shape-lines = λ i start row shape.
+      ap (λ (r : Found Chunk). shapeLineTold (shapeLineRead (viewIn r i) start (length row) (length shape)) row shape) e;
+  shape-frames = λ i frame shape.
+      ap (λ (r : Found Chunk). shapeFrameTold (shapeFrameRead (viewIn r i) (length frame) (length shape)) frame shape) e;
+  tables = λ table. ap (λ (r : Found Chunk). tableTold (rowsFor (length table) r) table) e;
 }

@@ -17,15 +17,19 @@ use Rattle.ilbm_spec.specs.declared.FrameAnswer.the-variants.{Leftover, Refused
 use Rattle.ilbm_spec.specs.Pictures.{Viewed, viewOf, pictureAnswer, pictureOf}
 use Rattle.ilbm_spec.specs.Palette.{answerIn, paletteAnswer}
 use Rattle.ilbm_spec.specs.Rows.{Read, lineAnswer, lineOf, lineInBody, frameAnswer, frameOf, frameInBody}
+use Rattle.ilbm_spec.specs.Shapes.{Shaped, shapeLineOf, shapeFrameOf, shapeLineInBody, shapeFrameInBody}
 use Rattle.byterun_pack.specs.declared.PackAnswer.{PackAnswer}
 use Rattle.byterun_pack.specs.declared.PackAnswer.the-variants.{Written as Packed, BadLength, NoRoom}
 use Rattle.byterun_pack.specs.Pack.{packNumber, packOf}
 use Rattle.write_picture.specs.declared.WriteAnswer.{WriteAnswer}
 use Rattle.write_picture.specs.declared.WriteAnswer.the-variants.{Written, Refused as Write-refused}
 use Rattle.write_picture.specs.Write.{writeOf}
-use Rattle.theorem_demands.specs.Numbers.{ofPicture, ofLine, ofFrame, ofBodyLine, ofBodyFrame, ofPacking, ofWriting, among, OneOf}
+use Rattle.theorem_demands.specs.Numbers.{ofPicture, ofLine, ofFrame, ofBodyLine, ofBodyFrame, andShape, ofPacking, ofWriting}
+use Rattle.theorem_demands.specs.Numbers.{among, OneOf}
 use Rattle.theorem_demands.specs.laws.Numbers.{Refuses, without-place, within, widened}
 use Rattle.theorem_demands.specs.laws.Pictures.{view-refuses, scan-line-refuses, frame-refuses, body-line-refuses, body-frame-refuses}
+use Rattle.theorem_demands.specs.laws.Pictures.{shape-line-refuses, shape-frame-refuses, body-shape-line-refuses}
+use Rattle.theorem_demands.specs.laws.Pictures.{body-shape-frame-refuses}
 
 -- ---- a picture
 
@@ -54,8 +58,8 @@ abbrev Line-by : List ℕ → LineAnswer → Type 0
 Line-by numbers (Next q) = Unit {0}
 Line-by numbers (Line-refused k p) = OneOf numbers k p
 
-line-by : (numbers : List ℕ) (r : Read (List ℕ)) → Refuses numbers r → Line-by numbers (lineAnswer r)
-line-by numbers (found (cs, q)) i = tt
+line-by : {A : Type 0} (numbers : List ℕ) (r : Read A) → Refuses numbers r → Line-by numbers (lineAnswer r)
+line-by numbers (found (a, q)) i = tt
 line-by numbers (refused k p) i = i
 
 pub line : (s : List ℕ) (i start room k p : ℕ) → lineAnswer (lineOf s i start room) ≡ Line-refused k p → OneOf ofLine k p
@@ -65,8 +69,8 @@ abbrev Frame-by : List ℕ → FrameAnswer → Type 0
 Frame-by numbers (Leftover n) = Unit {0}
 Frame-by numbers (Frame-refused k p) = OneOf numbers k p
 
-frame-by : (numbers : List ℕ) (r : Read (List ℕ)) → Refuses numbers r → Frame-by numbers (frameAnswer r)
-frame-by numbers (found (cs, n)) i = tt
+frame-by : {A : Type 0} (numbers : List ℕ) (r : Read A) → Refuses numbers r → Frame-by numbers (frameAnswer r)
+frame-by numbers (found (a, n)) i = tt
 frame-by numbers (refused k p) i = i
 
 pub frame : (s : List ℕ) (i room k p : ℕ) → frameAnswer (frameOf s i room) ≡ Frame-refused k p → OneOf ofFrame k p
@@ -85,6 +89,40 @@ pub body-frame :
 body-frame body w h planes masking compression room k p e =
     let r : Read (List ℕ) = frameInBody body w h planes masking compression room in
     subst (Frame-by ofBodyFrame) e (frame-by ofBodyFrame r (body-frame-refuses body w h planes masking compression room))
+
+-- ---- with the shape
+
+pub shape-line :
+    (s : List ℕ) (i start room shapeRoom k p : ℕ) → lineAnswer (shapeLineOf s i start room shapeRoom) ≡ Line-refused k p →
+    OneOf (andShape ofLine) k p
+shape-line s i start room shapeRoom k p e =
+    let r : Read Shaped = shapeLineOf s i start room shapeRoom in
+    subst (Line-by (andShape ofLine)) e (line-by (andShape ofLine) r (shape-line-refuses s i start room shapeRoom))
+
+pub shape-frame :
+    (s : List ℕ) (i room shapeRoom k p : ℕ) → frameAnswer (shapeFrameOf s i room shapeRoom) ≡ Frame-refused k p →
+    OneOf (andShape ofFrame) k p
+shape-frame s i room shapeRoom k p e =
+    let r : Read Shaped = shapeFrameOf s i room shapeRoom in
+    subst (Frame-by (andShape ofFrame)) e (frame-by (andShape ofFrame) r (shape-frame-refuses s i room shapeRoom))
+
+pub body-shape-line :
+    (body : List ℕ) (w planes masking compression transparent start room shapeRoom k p : ℕ) →
+    lineAnswer (shapeLineInBody body w planes masking compression transparent start room shapeRoom) ≡ Line-refused k p →
+    OneOf (andShape ofBodyLine) k p
+body-shape-line body w planes masking compression transparent start room shapeRoom k p e =
+    let r : Read Shaped = shapeLineInBody body w planes masking compression transparent start room shapeRoom in
+    let i = body-shape-line-refuses body w planes masking compression transparent start room shapeRoom in
+    subst (Line-by (andShape ofBodyLine)) e (line-by (andShape ofBodyLine) r i)
+
+pub body-shape-frame :
+    (body : List ℕ) (w h planes masking compression transparent room shapeRoom k p : ℕ) →
+    frameAnswer (shapeFrameInBody body w h planes masking compression transparent room shapeRoom) ≡ Frame-refused k p →
+    OneOf (andShape ofBodyFrame) k p
+body-shape-frame body w h planes masking compression transparent room shapeRoom k p e =
+    let r : Read Shaped = shapeFrameInBody body w h planes masking compression transparent room shapeRoom in
+    let i = body-shape-frame-refuses body w h planes masking compression transparent room shapeRoom in
+    subst (Frame-by (andShape ofBodyFrame)) e (frame-by (andShape ofBodyFrame) r i)
 
 -- ---- writing
 
@@ -105,9 +143,11 @@ write-choice : (b : Bool) (k : ℕ) (a : WriteAnswer) → among k ofWriting ≡ 
 write-choice true k a i j = without-place ofWriting k i
 write-choice false k a i j = j
 
-write-by : (b : BitmapHeader) (palette frame : List ℕ) (room : ℕ) → Written-by (writeOf b palette frame room)
+write-by : (b : BitmapHeader) (palette frame shape : List ℕ) (room : ℕ) → Written-by (writeOf b palette frame shape room)
 unfolding among
-write-by b palette frame room = search write-choice
+write-by b palette frame shape room = search write-choice depth 6
 
-pub write : (b : BitmapHeader) (palette frame : List ℕ) (room k : ℕ) → writeOf b palette frame room ≡ Write-refused k → OneOf ofWriting k 0
-write b palette frame room k e = subst Written-by e (write-by b palette frame room)
+pub write :
+    (b : BitmapHeader) (palette frame shape : List ℕ) (room k : ℕ) → writeOf b palette frame shape room ≡ Write-refused k →
+    OneOf ofWriting k 0
+write b palette frame shape room k e = subst Written-by e (write-by b palette frame shape room)

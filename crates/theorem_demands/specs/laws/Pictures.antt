@@ -1,6 +1,7 @@
 -- A picture is refused by the file's numbers and by those of pictures: its number is one of these where it is not 0. Rows are asked of such
--- a picture, and each row that is read is whole or refused by 27 or 26, so are rows and scan lines one after the other. Of a BODY by itself
--- they are asked after its header's fields, whose number is one of four where it is not 0.
+-- a picture, and each row that is read is whole or refused by 27 or 26, so are rows and scan lines one after the other, read once for the
+-- colours or twice for the shape too. Of a BODY by itself they are asked after its header's fields, whose number is one of four where it is
+-- not 0.
 use Prim.Native.Nat.{ℕ, zero, suc}
 use mathlib.Core.Path.{_≡_, refl}
 use mathlib.Core.Bool.{Bool, true, false}
@@ -13,9 +14,11 @@ use Rattle.byterun_row.specs.ByteRun.{Row, filled, over, short}
 use Rattle.ilbm_spec.specs.declared.BitmapHeader.{BitmapHeader}
 use Rattle.ilbm_spec.specs.Contents.{Located, Content, contentsOf}
 use Rattle.ilbm_spec.specs.Pictures.{Viewed, fieldsRefusal, headerRefusal, pictureRefusal, judged, pickContent, viewIn, viewOf}
-use Rattle.ilbm_spec.specs.Rows.{Read, thenRead, rowRead, rowsFrom, lineBy, linesBy, leftover, lineInBody, frameInBody, onBody}
-use Rattle.ilbm_spec.specs.Rows.{askRows, lineOf, frameOf}
-use Rattle.theorem_demands.specs.Numbers.{structural, ofPicture, ofRows, ofLine, ofFrame, ofFields, ofBodyLine, ofBodyFrame, among, OneOf}
+use Rattle.ilbm_spec.specs.Rows.{Read, thenRead, rowRead, rowsFrom, Pixels, lineWith, linesWith, leftover, lineInBody, frameInBody}
+use Rattle.ilbm_spec.specs.Rows.{onBody, askRows, lineOf, frameOf}
+use Rattle.ilbm_spec.specs.Shapes.{shapeLineOf, shapeFrameOf, shapeLineInBody, shapeFrameInBody}
+use Rattle.theorem_demands.specs.Numbers.{structural, ofPicture, ofRows, ofLine, ofFrame, ofFields, ofBodyLine, ofBodyFrame}
+use Rattle.theorem_demands.specs.Numbers.{andShape, among, OneOf}
 use Rattle.theorem_demands.specs.laws.Numbers.{Refuses, without-place, choice-refuses, within, among-within, widened}
 use Rattle.theorem_demands.specs.laws.Structure.{file-refuses}
 
@@ -96,47 +99,49 @@ rows-refuse compression body n (suc rows) at =
     search (read-refuses, row-refuses, rest)
 
 line-refuses :
-    (compression w planes rows : ℕ) (body : List ℕ) (at : ℕ) → Refuses ofRows (lineBy compression w planes rows body at)
-line-refuses compression w planes rows body at = search (read-refuses, rows-refuse)
+    (pixels : Pixels) (compression n rows : ℕ) (body : List ℕ) (at : ℕ) → Refuses ofRows (lineWith pixels compression n rows body at)
+line-refuses pixels compression n rows body at = search (read-refuses, rows-refuse)
 
 lines-refuse :
-    (compression w planes rows : ℕ) (body : List ℕ) (lines at : ℕ) → Refuses ofRows (linesBy compression w planes rows body lines at)
-unfolding linesBy
-lines-refuse compression w planes rows body zero at = tt
-lines-refuse compression w planes rows body (suc lines) at =
-    let rest : (q : ℕ) → Refuses ofRows (linesBy compression w planes rows body lines q) =
-    λ q. lines-refuse compression w planes rows body lines q in
+    (pixels : Pixels) (compression n rows : ℕ) (body : List ℕ) (lines at : ℕ) →
+    Refuses ofRows (linesWith pixels compression n rows body lines at)
+unfolding linesWith
+lines-refuse pixels compression n rows body zero at = tt
+lines-refuse pixels compression n rows body (suc lines) at =
+    let rest : (q : ℕ) → Refuses ofRows (linesWith pixels compression n rows body lines q) =
+    λ q. lines-refuse pixels compression n rows body lines q in
     search (read-refuses, line-refuses, rest)
 
 -- ---- rows asked of a picture
 
 body-refuses :
-    (numbers : List ℕ) (rows : List ℕ → Read (List ℕ)) → OneOf numbers 25 0 → ((body : List ℕ) → Refuses numbers (rows body)) →
+    {A : Type 0} (numbers : List ℕ) (rows : List ℕ → Read A) → OneOf numbers 25 0 → ((body : List ℕ) → Refuses numbers (rows body)) →
     (bodies : List Located) → Refuses numbers (onBody bodies rows)
 body-refuses numbers rows i j [] = i
 body-refuses numbers rows i j (body ∷ others) = j (body .content)
 
 asked-refuses :
-    (numbers : List ℕ) (v : Viewed) (rows : BitmapHeader → List ℕ → Read (List ℕ)) → within ofPicture numbers ≡ true → OneOf numbers 25 0 →
-    Refuses ofPicture v → ((b : BitmapHeader) (body : List ℕ) → Refuses numbers (rows b body)) → Refuses numbers (askRows v rows)
+    {A : Type 0} (numbers : List ℕ) (v : Viewed) (rows : BitmapHeader → List ℕ → Read A) → within ofPicture numbers ≡ true →
+    OneOf numbers 25 0 → Refuses ofPicture v → ((b : BitmapHeader) (body : List ℕ) → Refuses numbers (rows b body)) →
+    Refuses numbers (askRows v rows)
 asked-refuses numbers (found c) rows w i j each = search (body-refuses, each)
 asked-refuses numbers (refused k p) rows w i j each = widened {A = Content} ofPicture numbers w (refused k p) j
 
-leftover-refuses : (numbers : List ℕ) (n : ℕ) (x : Read (List ℕ)) → Refuses numbers x → Refuses numbers (leftover n x)
-leftover-refuses numbers n (found (cs, q)) i = tt
+leftover-refuses : {A : Type 0} (numbers : List ℕ) (n : ℕ) (x : Read A) → Refuses numbers x → Refuses numbers (leftover n x)
+leftover-refuses numbers n (found (a, q)) i = tt
 leftover-refuses numbers n (refused k p) i = i
 
 of-line :
-    (numbers : List ℕ) (compression w planes rows : ℕ) (body : List ℕ) (at : ℕ) → within ofRows numbers ≡ true →
-    Refuses numbers (lineBy compression w planes rows body at)
-of-line numbers compression w planes rows body at i =
-    widened ofRows numbers i (lineBy compression w planes rows body at) (line-refuses compression w planes rows body at)
+    (numbers : List ℕ) (pixels : Pixels) (compression n rows : ℕ) (body : List ℕ) (at : ℕ) → within ofRows numbers ≡ true →
+    Refuses numbers (lineWith pixels compression n rows body at)
+of-line numbers pixels compression n rows body at i =
+    widened ofRows numbers i (lineWith pixels compression n rows body at) (line-refuses pixels compression n rows body at)
 
 of-lines :
-    (numbers : List ℕ) (compression w planes rows : ℕ) (body : List ℕ) (lines at : ℕ) → within ofRows numbers ≡ true →
-    Refuses numbers (linesBy compression w planes rows body lines at)
-of-lines numbers compression w planes rows body lines at i =
-    widened ofRows numbers i (linesBy compression w planes rows body lines at) (lines-refuse compression w planes rows body lines at)
+    (numbers : List ℕ) (pixels : Pixels) (compression n rows : ℕ) (body : List ℕ) (lines at : ℕ) → within ofRows numbers ≡ true →
+    Refuses numbers (linesWith pixels compression n rows body lines at)
+of-lines numbers pixels compression n rows body lines at i =
+    widened ofRows numbers i (linesWith pixels compression n rows body lines at) (lines-refuse pixels compression n rows body lines at)
 
 pub scan-line-refuses : (s : List ℕ) (i start room : ℕ) → Refuses ofLine (lineOf s i start room)
 unfolding within among
@@ -161,3 +166,28 @@ pub body-frame-refuses :
 unfolding within among
 body-frame-refuses body w h planes masking compression room =
     search (unless-zero, fields-number, choice-refuses, leftover-refuses, of-lines)
+
+-- ---- with the shape
+
+pub shape-line-refuses : (s : List ℕ) (i start room shapeRoom : ℕ) → Refuses (andShape ofLine) (shapeLineOf s i start room shapeRoom)
+unfolding within among
+shape-line-refuses s i start room shapeRoom = search (asked-refuses, view-refuses, choice-refuses, read-refuses, of-line) depth 8
+
+pub shape-frame-refuses : (s : List ℕ) (i room shapeRoom : ℕ) → Refuses (andShape ofFrame) (shapeFrameOf s i room shapeRoom)
+unfolding within among
+shape-frame-refuses s i room shapeRoom =
+    search (asked-refuses, view-refuses, choice-refuses, leftover-refuses, read-refuses, of-lines) depth 8
+
+pub body-shape-line-refuses :
+    (body : List ℕ) (w planes masking compression transparent start room shapeRoom : ℕ) →
+    Refuses (andShape ofBodyLine) (shapeLineInBody body w planes masking compression transparent start room shapeRoom)
+unfolding within among
+body-shape-line-refuses body w planes masking compression transparent start room shapeRoom =
+    search (unless-zero, fields-number, choice-refuses, read-refuses, of-line) depth 8
+
+pub body-shape-frame-refuses :
+    (body : List ℕ) (w h planes masking compression transparent room shapeRoom : ℕ) →
+    Refuses (andShape ofBodyFrame) (shapeFrameInBody body w h planes masking compression transparent room shapeRoom)
+unfolding within among
+body-shape-frame-refuses body w h planes masking compression transparent room shapeRoom =
+    search (unless-zero, fields-number, choice-refuses, leftover-refuses, read-refuses, of-lines) depth 8

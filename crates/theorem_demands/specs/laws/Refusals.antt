@@ -20,6 +20,10 @@ refusals =
       picture-table = FileCalls.picture-table;
       body-line = PictureCalls.body-line;
       body-frame = PictureCalls.body-frame;
+      shape-line = PictureCalls.shape-line;
+      shape-frame = PictureCalls.shape-frame;
+      body-shape-line = PictureCalls.body-shape-line;
+      body-shape-frame = PictureCalls.body-shape-frame;
       pack = PictureCalls.pack;
       write = PictureCalls.write;
     }

@@ -30,8 +30,8 @@ abbrev paletteProperty : ℕ → List ℕ → Property
 paletteProperty p [] = absent
 paletteProperty p (x ∷ xs) = own (located p (x ∷ xs))
 
-abbrev pub contentFor : BitmapHeader → List ℕ → List ℕ → Content
-contentFor b palette frame =
+abbrev pub contentFor : BitmapHeader → List ℕ → List ℕ → List ℕ → Content
+contentFor b palette frame shape =
     record {
       place = 0;
       bmhd = own (located 12 (headerBytes b));
@@ -40,40 +40,46 @@ contentFor b palette frame =
       dest = absent;
       sprt = absent;
       camg = absent;
-      bodies = located (bodyPlace b palette) (bodyBytes b frame) ∷ [];
+      bodies = located (bodyPlace b palette) (bodyBytes b frame shape) ∷ [];
     }
 
-pub one-content : (b : BitmapHeader) (palette frame : List ℕ) → contentsOf (pictureForm b palette frame) ≡ contentFor b palette frame ∷ []
+pub one-content :
+    (b : BitmapHeader) (palette frame shape : List ℕ) →
+    contentsOf (pictureForm b palette frame shape) ≡ contentFor b palette frame shape ∷ []
 unfolding contentsFrom propertyOf lastNamed bodiesFrom
-one-content b [] frame = refl
-one-content b (x ∷ xs) frame = refl
+one-content b [] frame shape = refl
+one-content b (x ∷ xs) frame shape = refl
 
 palette-origin : (p : ℕ) (palette : List ℕ) → originOf (paletteProperty p palette) ≡ paletteOrigin palette
 palette-origin p [] = refl
 palette-origin p (x ∷ xs) = refl
 
-pub picture-answered : (b : BitmapHeader) (palette frame : List ℕ) → InRange b →
-    pictureFrom (contentFor b palette frame) ≡ pictureFor b palette
+pub picture-answered : (b : BitmapHeader) (palette frame shape : List ℕ) → InRange b →
+    pictureFrom (contentFor b palette frame shape) ≡ pictureFor b palette
 unfolding pictureFrom hotSpotIn destinationIn word
-picture-answered b palette frame r = rw (header-back b r, palette-origin (cmapPlace b) palette)
+picture-answered b palette frame shape r = rw (header-back b r, palette-origin (cmapPlace b) palette)
 
-pub palette-answered : (b : BitmapHeader) (palette frame : List ℕ) → paletteFrom (contentFor b palette frame .cmap) [] ≡ palette
-palette-answered b [] frame = refl
-palette-answered b (x ∷ xs) frame = refl
+pub palette-answered : (b : BitmapHeader) (palette frame shape : List ℕ) → paletteFrom (contentFor b palette frame shape .cmap) [] ≡ palette
+palette-answered b [] frame shape = refl
+palette-answered b (x ∷ xs) frame shape = refl
 
 triples-right : (p : ℕ) (palette : List ℕ) → length palette % 3 ≡ 0 → sizeNotTriples (paletteProperty p palette) ≡ false
 triples-right p [] e = refl
 triples-right p (x ∷ xs) e = rw (eq-eqb (length (x ∷ xs) % 3) 0 e)
 
-sizes-right : (b : BitmapHeader) (palette frame : List ℕ) → length palette % 3 ≡ 0 → wrongSize (contentFor b palette frame) ≡ false
+sizes-right :
+    (b : BitmapHeader) (palette frame shape : List ℕ) →
+    length palette % 3 ≡ 0 → wrongSize (contentFor b palette frame shape) ≡ false
 unfolding wrongSize headerBytes
-sizes-right b palette frame e = rw (triples-right (cmapPlace b) palette e)
+sizes-right b palette frame shape e = rw (triples-right (cmapPlace b) palette e)
 
-module _ (b : BitmapHeader) (palette frame : List ℕ) (room n : ℕ) (range : InRange b) (may : Writable b palette frame room n) where
+module _
+    (b : BitmapHeader) (palette frame shape : List ℕ) (room n : ℕ) (range : InRange b)
+    (may : Writable b palette frame shape room n) where
   fields-right : headerRefusal (headerIn (headerBytes b)) true ≡ 0
   unfolding headerRefusal fieldsRefusal
   fields-right = rw (header-back b range) (simp (may .shallow, may .masking, may .compression, may .wide, may .high, may .deep))
 
-  pub no-refusal : pictureRefusal (contentFor b palette frame) ≡ 0
+  pub no-refusal : pictureRefusal (contentFor b palette frame shape) ≡ 0
   unfolding pictureRefusal
-  no-refusal = rw (sizes-right b palette frame (may .triples)) fields-right
+  no-refusal = rw (sizes-right b palette frame shape (may .triples)) fields-right

@@ -26,35 +26,37 @@ unfolding kindOf wellFormed versionName
 palette-stands [] F m = m
 palette-stands (x ∷ xs) F m = (refl, refl, refl, length-replicate _ 0, m)
 
-form-stands : (b : BitmapHeader) (palette frame : List ℕ) → Members Outermost [] (before (pictureForm b palette frame) none)
+form-stands : (b : BitmapHeader) (palette frame shape : List ℕ) → Members Outermost [] (before (pictureForm b palette frame shape) none)
 unfolding kindOf wellFormed versionName typeName typeBytes reservedName headerBytes
-form-stands b palette frame =
-    (refl, refl, refl, refl, (refl, refl, refl, refl, palette-stands palette _ (body-stands (bodyBytes b frame))), tt)
+form-stands b palette frame shape =
+    (refl, refl, refl, refl, (refl, refl, refl, refl, palette-stands palette _ (body-stands (bodyBytes b frame shape))), tt)
 
-form-height : (b : BitmapHeader) (palette frame : List ℕ) → height (before (pictureForm b palette frame) none) ≤ 16
-form-height b [] frame = omega arith
-form-height b (x ∷ xs) frame = omega arith
+form-height : (b : BitmapHeader) (palette frame shape : List ℕ) → height (before (pictureForm b palette frame shape) none) ≤ 16
+form-height b [] frame shape = omega arith
+form-height b (x ∷ xs) frame shape = omega arith
 
-form-count : (b : BitmapHeader) (palette frame : List ℕ) → count (before (pictureForm b palette frame) none) ≡ chunksFor palette
+form-count : (b : BitmapHeader) (palette frame shape : List ℕ) → count (before (pictureForm b palette frame shape) none) ≡ chunksFor palette
 unfolding count
-form-count b [] frame = refl
-form-count b (x ∷ xs) frame = refl
+form-count b [] frame shape = refl
+form-count b (x ∷ xs) frame shape = refl
 
-module _ (b : BitmapHeader) (palette frame : List ℕ) (short : length (pictureFile b palette frame) ≤ 16777216) where
-  pub chunk-file : ChunkFile (pictureFile b palette frame) (pictureForm b palette frame) []
+module _ (b : BitmapHeader) (palette frame shape : List ℕ) (short : length (pictureFile b palette frame shape) ≤ 16777216) where
+  pub chunk-file : ChunkFile (pictureFile b palette frame shape) (pictureForm b palette frame shape) []
   unfolding pictureFile
   chunk-file =
       record {
-        whole = sym (append-nil (bytes (before (pictureForm b palette frame) none)));
-        tree = form-stands b palette frame;
-        nesting = form-height b palette frame;
+        whole = sym (append-nil (bytes (before (pictureForm b palette frame shape) none)));
+        tree = form-stands b palette frame shape;
+        nesting = form-height b palette frame shape;
         short = short;
       }
 
-  pub file-read : readFile (pictureFile b palette frame) ≡ found (pictureForm b palette frame)
-  file-read = complete (pictureFile b palette frame) (pictureForm b palette frame) [] chunk-file
+  pub file-read : readFile (pictureFile b palette frame shape) ≡ found (pictureForm b palette frame shape)
+  file-read = complete (pictureFile b palette frame shape) (pictureForm b palette frame shape) [] chunk-file
 
-  pub file-answered : checkOf (pictureFile b palette frame) ≡ Accepted (chunksFor palette) (length (pictureFile b palette frame)) 0
+  pub file-answered :
+      checkOf (pictureFile b palette frame shape)
+      ≡ Accepted (chunksFor palette) (length (pictureFile b palette frame shape)) 0
   unfolding pictureFile
-  file-answered = ends (pictureFile b palette frame) (pictureForm b palette frame) [] chunk-file .1 ∙
-      ap (λ (k : ℕ). Accepted k (length (pictureFile b palette frame)) 0) (form-count b palette frame)
+  file-answered = ends (pictureFile b palette frame shape) (pictureForm b palette frame shape) [] chunk-file .1 ∙
+      ap (λ (k : ℕ). Accepted k (length (pictureFile b palette frame shape)) 0) (form-count b palette frame shape)

@@ -17,11 +17,13 @@ use Rattle.ilbm_spec.specs.Contents.{Located, located, Property, own, shared, a
 use Rattle.ilbm_spec.specs.Pictures.{u16, headerIn, hotSpotIn, destinationIn, dataOf, originOf, pictureRefusal, Viewed, judged, pictureFrom}
 use Rattle.ilbm_spec.specs.Pictures.{pictureAnswer, paletteFrom}
 use Rattle.ilbm_spec.specs.Palette.{Answer, answerIn, extentIn}
-use Rattle.ilbm_spec.specs.Rows.{Read, bodyLine, bodyFrame, lineInBody, frameInBody, onBody, lineRead, frameRead}
+use Rattle.ilbm_spec.specs.Rows.{Read, bodyLine, bodyFrame, lineInBody, frameInBody, onBody, askRows, lineRead, frameRead}
+use Rattle.ilbm_spec.specs.Shapes.{bodyShapeLine, bodyShapeFrame, shapeLineInBody, shapeFrameInBody, shapeLineRead, shapeFrameRead}
 use Rattle.ilbm_spec.specs.Table.{propertyRow, bodyRow, PictureRow, rowWith, withoutParts, pictureRow}
 use Rattle.ilbm_spec.specs.laws.Pictures.{header-size, one-body, frame-fields, line-fields}
 use Rattle.theorem_table.specs.ByTable.{dataBy, bodyBy, headerBy, unlessRefused, originBy, pictureBy, propertiesBy, paletteBy}
-use Rattle.theorem_table.specs.ByTable.{extentBy, scanLineBy, frameBy, chunkBy, propertyBy, bodiesBy, contentFor, viewBy, Part, Parts}
+use Rattle.theorem_table.specs.ByTable.{extentBy, rowsBy, scanLineBy, frameBy, shapeLineBy, shapeFrameBy, chunkBy, propertyBy}
+use Rattle.theorem_table.specs.ByTable.{bodiesBy, contentFor, viewBy, Part, Parts}
 use Rattle.theorem_table.specs.laws.Lies.{Lies, PropertyLies, BodiesLie, ContentLies}
 
 -- the row of a picture that is refused, or is not
@@ -73,7 +75,7 @@ module _ (s : List ℕ) where
 
   -- rows of the BODY, which are refused for the fields by no number
   rows-told :
-      (bs : List Located) → BodiesLie s bs → (rows inBody : List ℕ → Read (List ℕ)) →
+      {A : Type 0} (bs : List Located) → BodiesLie s bs → (rows inBody : List ℕ → Read A) →
       ((b : Located) (others : List Located) → bs ≡ b ∷ others → inBody (b .content) ≡ rows (b .content)) → (r : PictureRow) →
       r .body ≡ bodyRow bs → pick (eqb (r .body .there) 0) (refused 25 0) (inBody (bodyBy s r)) ≡ onBody bs rows
   rows-told [] l rows inBody e r i = rw i
@@ -160,24 +162,43 @@ module _ (s : List ℕ) where
         go k true = refl
         go k false = refl
 
+    -- rows by the header and the BODY, where the fields of a picture that has one pass
+    asked-told :
+        {A : Type 0} (rows inBody : BitmapHeader → List ℕ → Read A) →
+        (pictureRefusal c ≡ 0 → (x : Located) (xs : List Located) → c .bodies ≡ x ∷ xs →
+        inBody (headerIn (dataOf (c .bmhd))) (x .content) ≡ rows (headerIn (dataOf (c .bmhd))) (x .content)) →
+        let r = pictureRow c in rowsBy r (inBody (headerBy s r) (bodyBy s r)) ≡ askRows (judged c) rows
+    asked-told rows inBody pass =
+        let b : BitmapHeader = headerIn (dataOf (c .bmhd)) in
+        by-answer c (λ r. pick (eqb (r .body .there) 0) (refused 25 0) (inBody (headerBy s r) (bodyBy s r))) refused
+        (λ v. askRows v rows) (λ k p. refl)
+        (λ e. rw (data-told (c .bmhd) (l .bmhd)) (rows-told (c .bodies) (l .bodies) (rows b) (inBody b) (pass e) (rowWith 0 c) refl))
+
     pub line-told : (start room : ℕ) → scanLineBy s (pictureRow c) start room ≡ lineRead (judged c) start room
     line-told start room =
-        let b : BitmapHeader = headerIn (dataOf (c .bmhd)) in
-        by-answer c (λ r. let h : BitmapHeader = headerBy s r in pick (eqb (r .body .there) 0) (refused 25 0)
-        (lineInBody (bodyBy s r) (h .w) (h .planes) (h .masking) (h .compression) start room))
-        refused (λ v. lineRead v start room) (λ k p. refl)
-        (λ e. rw (data-told (c .bmhd) (l .bmhd))
-        (rows-told (c .bodies) (l .bodies) (λ body. bodyLine body (b .w) (b .planes) (b .masking) (b .compression) start room)
-        (λ body. lineInBody body (b .w) (b .planes) (b .masking) (b .compression) start room)
-        (λ x xs i. rw (line-fields c e x xs i)) (rowWith 0 c) refl))
+        asked-told (λ b body. bodyLine body (b .w) (b .planes) (b .masking) (b .compression) start room)
+        (λ b body. lineInBody body (b .w) (b .planes) (b .masking) (b .compression) start room)
+        (λ e x xs i. rw (line-fields c e x xs i))
 
     pub frame-told : (room : ℕ) → frameBy s (pictureRow c) room ≡ frameRead (judged c) room
     frame-told room =
-        let b : BitmapHeader = headerIn (dataOf (c .bmhd)) in
-        by-answer c (λ r. let h : BitmapHeader = headerBy s r in pick (eqb (r .body .there) 0) (refused 25 0)
-        (frameInBody (bodyBy s r) (h .w) (h .h) (h .planes) (h .masking) (h .compression) room))
-        refused (λ v. frameRead v room) (λ k p. refl)
-        (λ e. rw (data-told (c .bmhd) (l .bmhd))
-        (rows-told (c .bodies) (l .bodies) (λ body. bodyFrame body (b .w) (b .h) (b .planes) (b .masking) (b .compression) room)
-        (λ body. frameInBody body (b .w) (b .h) (b .planes) (b .masking) (b .compression) room)
-        (λ x xs i. rw (frame-fields c e x xs i)) (rowWith 0 c) refl))
+        asked-told (λ b body. bodyFrame body (b .w) (b .h) (b .planes) (b .masking) (b .compression) room)
+        (λ b body. frameInBody body (b .w) (b .h) (b .planes) (b .masking) (b .compression) room)
+        (λ e x xs i. rw (frame-fields c e x xs i))
+
+    pub shape-line-told :
+        (start room shapeRoom : ℕ) →
+        shapeLineBy s (pictureRow c) start room shapeRoom ≡ shapeLineRead (judged c) start room shapeRoom
+    shape-line-told start room shapeRoom =
+        asked-told
+        (λ b body. bodyShapeLine body (b .w) (b .planes) (b .masking) (b .compression) (b .transparent) start room shapeRoom)
+        (λ b body. shapeLineInBody body (b .w) (b .planes) (b .masking) (b .compression) (b .transparent) start room shapeRoom)
+        (λ e x xs i. rw (line-fields c e x xs i))
+
+    pub shape-frame-told :
+        (room shapeRoom : ℕ) → shapeFrameBy s (pictureRow c) room shapeRoom ≡ shapeFrameRead (judged c) room shapeRoom
+    shape-frame-told room shapeRoom =
+        asked-told
+        (λ b body. bodyShapeFrame body (b .w) (b .h) (b .planes) (b .masking) (b .compression) (b .transparent) room shapeRoom)
+        (λ b body. shapeFrameInBody body (b .w) (b .h) (b .planes) (b .masking) (b .compression) (b .transparent) room shapeRoom)
+        (λ e x xs i. rw (frame-fields c e x xs i))

@@ -13,16 +13,22 @@ palette-size-requires : tie.Need-palette-size-requires
 palette-size-requires c κs = search needs
 
 add-file : tie.Need-add-file
-add-file c = record { fits = omega (arith, c .before .body-len .ensures .1, palette-small _ _ (c .before .before .before .before .pre .1) (c .palette-size .ensures)) }
+add-file c =
+    let small = palette-small _ _ (c .before .before .before .before .before .pre .1) (c .palette-size .ensures) in
+    record { fits = omega (arith, c .before .body-len .ensures .1) }
 
 add-file-2 : tie.Need-add-file-2
-add-file-2 c = record { fits = omega (arith, c .before .body-len .ensures .1, palette-small _ _ (c .before .before .before .before .pre .1) (c .palette-size .ensures)) }
+add-file-2 c =
+    let small = palette-small _ _ (c .before .before .before .before .before .pre .1) (c .palette-size .ensures) in
+    record { fits = omega (arith, c .before .body-len .ensures .1) }
 
 add-file-3 : tie.Need-add-file-3
-add-file-3 c = record { fits = omega (arith, c .before .body-len .ensures .1, palette-small _ _ (c .before .before .before .before .pre .1) (c .palette-size .ensures)) }
+add-file-3 c =
+    let small = palette-small _ _ (c .before .before .before .before .before .pre .1) (c .palette-size .ensures) in
+    record { fits = omega (arith, c .before .body-len .ensures .1) }
 
 returns : tie.Need-returns
-returns c = (search needs, sym (file-size _ _ _ _ _ (c .palette-size .ensures) (c .before .body-len .ensures .0)))
+returns c = (search needs, sym (file-size _ _ _ _ _ _ (c .palette-size .ensures) (c .before .body-len .ensures .0)))
 
 pub file-sizes-spec : {M : Type 1} → statement M
 file-sizes-spec =

@@ -12,89 +12,80 @@ palette-size-requires c κs = search needs
 add-put-head : tie.Need-add-put-head
 add-put-head c =
     let sized = c in
-    let s = sized .before .before .before .before in
-    let short = file-short _ _ _ _ _ (sized .palette-size .ensures) (s .pre .3) _ (s .pre .4) in
+    let s = sized .before .before .before .before .before in
+    let short = file-short _ _ _ _ _ _ (sized .palette-size .ensures) (s .pre .4) _ (s .pre .5) in
     record { fits = omega arith }
 
 add-put-head-2 : tie.Need-add-put-head-2
 add-put-head-2 c =
     let sized = c in
-    let s = sized .before .before .before .before in
-    let short = file-short _ _ _ _ _ (sized .palette-size .ensures) (s .pre .3) _ (s .pre .4) in
+    let s = sized .before .before .before .before .before in
+    let short = file-short _ _ _ _ _ _ (sized .palette-size .ensures) (s .pre .4) _ (s .pre .5) in
     record { fits = omega arith }
 
 add-put-head-3 : tie.Need-add-put-head-3
 add-put-head-3 c =
     let sized = c in
-    let s = sized .before .before .before .before in
-    let short = file-short _ _ _ _ _ (sized .palette-size .ensures) (s .pre .3) _ (s .pre .4) in
+    let s = sized .before .before .before .before .before in
+    let short = file-short _ _ _ _ _ _ (sized .palette-size .ensures) (s .pre .4) _ (s .pre .5) in
     record { fits = omega arith }
 
 put-head-requires : tie.Need-put-head-requires
 put-head-requires c κs =
     let sized = c .before in
-    let s = sized .before .before .before .before in
-    let fits = file-fits _ _ _ _ _ (sized .palette-size .ensures) (s .pre .3) _ (s .pre .4) in
-    let short = file-short _ _ _ _ _ (sized .palette-size .ensures) (s .pre .3) _ (s .pre .4) in
+    let s = sized .before .before .before .before .before in
+    let fits = file-fits _ _ _ _ _ _ (sized .palette-size .ensures) (s .pre .4) _ (s .pre .5) in
+    let short = file-short _ _ _ _ _ _ (sized .palette-size .ensures) (s .pre .4) _ (s .pre .5) in
     (omega arith, omega arith, omega arith)
 
 put-header-requires : tie.Need-put-header-requires
 put-header-requires c κs =
     let sized = c .before .before .before .before .before in
-    let s = sized .before .before .before .before in
-    let fits = file-fits _ _ _ _ _ (sized .palette-size .ensures) (s .pre .3) _ (s .pre .4) in
+    let s = sized .before .before .before .before .before in
+    let fits = file-fits _ _ _ _ _ _ (sized .palette-size .ensures) (s .pre .4) _ (s .pre .5) in
     omega arith
 
 put-palette-requires : tie.Need-put-palette-requires
 put-palette-requires c κs =
     let sized = c .before .before .before .before .before .before .before .before .before in
-    let s = sized .before .before .before .before in
-    let fits = file-fits _ _ _ _ _ (sized .palette-size .ensures) (s .pre .3) _ (s .pre .4) in
+    let s = sized .before .before .before .before .before in
+    let fits = file-fits _ _ _ _ _ _ (sized .palette-size .ensures) (s .pre .4) _ (s .pre .5) in
     (s .pre .1, omega (arith, sized .palette-size .ensures))
 
 add-put-head-4 : tie.Need-add-put-head-4
 add-put-head-4 c =
     let sized = c .before .before .before .before .before .before .before .before .before .before .before .before .before in
-    let s = sized .before .before .before .before in
-    let short = file-short _ _ _ _ _ (sized .palette-size .ensures) (s .pre .3) _ (s .pre .4) in
+    let s = sized .before .before .before .before .before in
+    let short = file-short _ _ _ _ _ _ (sized .palette-size .ensures) (s .pre .4) _ (s .pre .5) in
     record { fits = omega arith }
 
 put-head-requires-2 : tie.Need-put-head-requires-2
 put-head-requires-2 c κs =
-    let fits = file-fits _ _ _ _ _ (c .before .before .before .before .before .before .before .before .before .before .before .before .before .palette-size .ensures)
-    (c .before .before .before .before .before .before .before .before .before .before .before .before .before .before .before .before .before .pre .3) _
-    (c .before .before .before .before .before .before .before .before .before .before .before .before .before .before .before .before .before .pre .4) in
-    let short = file-short _ _ _ _ _ (c .before .before .before .before .before .before .before .before .before .before .before .before .before .palette-size .ensures)
-    (c .before .before .before .before .before .before .before .before .before .before .before .before .before .before .before .before .before .pre .3) _
-    (c .before .before .before .before .before .before .before .before .before .before .before .before .before .before .before .before .before .pre .4) in
+    let p = c .before .before .before .before .before .before .before .before .before .before .before .before .before .before .before .before .before .before .pre in
+    let fits = file-fits _ _ _ _ _ _ (c .before .before .before .before .before .before .before .before .before .before .before .before .before .palette-size .ensures) (p .4) _ (p .5) in
+    let short = file-short _ _ _ _ _ _ (c .before .before .before .before .before .before .before .before .before .before .before .before .before .palette-size .ensures) (p .4) _ (p .5) in
     (omega arith, omega arith, omega arith)
 
 add-put-body : tie.Need-add-put-body
 add-put-body c =
     let sized = c .before .before .before .before .before .before .before .before .before .before .before .before .before .before .before .before .before in
-    let s = sized .before .before .before .before in
-    let short = file-short _ _ _ _ _ (sized .palette-size .ensures) (s .pre .3) _ (s .pre .4) in
+    let s = sized .before .before .before .before .before in
+    let short = file-short _ _ _ _ _ _ (sized .palette-size .ensures) (s .pre .4) _ (s .pre .5) in
     record { fits = omega arith }
 
 put-body-requires : tie.Need-put-body-requires
 put-body-requires c κs =
-    let fits = file-fits _ _ _ _ _ (c .before .before .before .before .before .before .before .before .before .before .before .before .before .before .before .before .before .palette-size .ensures)
-    (c .before .before .before .before .before .before .before .before .before .before .before .before .before .before .before .before .before .before .before .before .before .pre .3) _
-    (c .before .before .before .before .before .before .before .before .before .before .before .before .before .before .before .before .before .before .before .before .before .pre .4) in
-    let short = file-short _ _ _ _ _ (c .before .before .before .before .before .before .before .before .before .before .before .before .before .before .before .before .before .palette-size .ensures)
-    (c .before .before .before .before .before .before .before .before .before .before .before .before .before .before .before .before .before .before .before .before .before .pre .3) _
-    (c .before .before .before .before .before .before .before .before .before .before .before .before .before .before .before .before .before .before .before .before .before .pre .4) in
-    let is = c .before .before .before .before .before .before .before .before .before .before .before .before .before .before .before .before .before .before .before .before .before .pre .3 in
-    let planes = c .before .before .before .before .before .before .before .before .before .before .before .before .before .before .before .before .before .before .before .before .before .pre .0 in
-    let pixels = c .before .before .before .before .before .before .before .before .before .before .before .before .before .before .before .before .before .before .before .before .before .pre .2 in
-    (planes, pixels, record { fits = omega arith; short = omega arith })
+    let p = c .before .before .before .before .before .before .before .before .before .before .before .before .before .before .before .before .before .before .before .before .before .before .pre in
+    let fits = file-fits _ _ _ _ _ _ (c .before .before .before .before .before .before .before .before .before .before .before .before .before .before .before .before .before .palette-size .ensures) (p .4) _ (p .5) in
+    let short = file-short _ _ _ _ _ _ (c .before .before .before .before .before .before .before .before .before .before .before .before .before .before .before .before .before .palette-size .ensures) (p .4) _ (p .5) in
+    let is = p .4 in
+    (p .0, p .2, p .3, record { fits = omega arith; short = omega arith })
 
 put-pad-requires : tie.Need-put-pad-requires
 put-pad-requires c κs =
-    let fits = file-fits _ _ _ _ _ (c .before .before .before .before .before .before .before .before .before .before .before .before .before .before .before .before .before .before .before .before .before .palette-size .ensures)
-    (c .before .before .before .before .before .before .before .before .before .before .before .before .before .before .before .before .before .before .before .before .before .before .before .before .before .pre .3) _
-    (c .before .before .before .before .before .before .before .before .before .before .before .before .before .before .before .before .before .before .before .before .before .before .before .before .before .pre .4) in
-    omega (arith, c .before .before .before .before .before .before .before .before .before .before .before .before .before .before .before .before .before .before .before .before .before .before .before .before .before .pre .3, c .before .before .before .put-body .ensures .0)
+    let p = c .before .before .before .before .before .before .before .before .before .before .before .before .before .before .before .before .before .before .before .before .before .before .before .before .before .before .pre in
+    let fits = file-fits _ _ _ _ _ _ (c .before .before .before .before .before .before .before .before .before .before .before .before .before .before .before .before .before .before .before .before .before .palette-size .ensures) (p .4) _ (p .5) in
+    omega (arith, p .4, c .before .before .before .put-body .ensures .0)
 
 same-length : tie.Need-same-length
 same-length c = search needs
@@ -108,8 +99,8 @@ returns c =
     let header = palette .before .before .before .before in
     let form = header .before .before .before .before in
     let sized = form .before .before in
-    let s = sized .before .before .before .before in
-    file-put _ _ _ _ _ (sized .palette-size .ensures) (s .pre .3) _ (s .pre .4) _ _ _ _ _ _ _ (form .put-head .ensures) (header .put-header .ensures)
+    let s = sized .before .before .before .before .before in
+    file-put _ _ _ _ _ _ (sized .palette-size .ensures) (s .pre .4) _ (s .pre .5) _ _ _ _ _ _ _ (form .put-head .ensures) (header .put-header .ensures)
     (palette .put-palette .ensures) (head .put-head2 .ensures) (body .put-body .ensures .1) (body .put-body .ensures .0) (padded .put-pad .ensures)
 
 pub put-file-spec : {M : Type 1} → statement M

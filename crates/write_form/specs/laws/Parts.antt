@@ -40,21 +40,24 @@ unfolding bytes
 form-bytes G = simp append-nil
 
 -- the file is its head, CMAP and BODY
-pub file-parts :
-    (b : BitmapHeader) (palette frame : List ℕ) →
-    pictureFile b palette frame
-    ≡ fileHead b (formSize (length palette) (length (bodyBytes b frame))) ++ (paletteChunk palette ++ chunkBytes BODY (bodyBytes b frame))
-unfolding pictureFile
-file-parts b palette frame =
-    form-bytes (membersFor b palette (bodyBytes b frame))
-    ∙ rw (members-length b palette (bodyBytes b frame), members-are b palette (bodyBytes b frame)) (head-joins (headerBytes b) _)
-  where
-    head-joins : (h r : List ℕ) → putWord FORM (putWord (formSize (length palette) (length (bodyBytes b frame))) (putWord ILBM (putWord BMHD (putWord 20 (h ++ r)))))
-        ≡ putWord FORM (putWord (formSize (length palette) (length (bodyBytes b frame))) (putWord ILBM (putWord BMHD (putWord 20 h)))) ++ r
-    head-joins h r = refl
+module _ (b : BitmapHeader) (palette frame shape : List ℕ) where
+  abbrev body : List ℕ
+  body = bodyBytes b frame shape
 
-pub file-length :
-    (b : BitmapHeader) (palette frame : List ℕ) → length (pictureFile b palette frame) ≡ 8 + formSize (length palette) (length (bodyBytes b frame))
-file-length b palette frame =
-    rw (file-parts b palette frame)
-    (simp (length-append, header-length b, palette-length palette, length-replicate) (omega arith))
+  pub file-parts :
+      pictureFile b palette frame shape
+      ≡ fileHead b (formSize (length palette) (length body)) ++ (paletteChunk palette ++ chunkBytes BODY body)
+  unfolding pictureFile
+  file-parts =
+      form-bytes (membersFor b palette body) ∙ rw (members-length b palette body, members-are b palette body) (head-joins (headerBytes b) _)
+    where
+      head-joins :
+          (h r : List ℕ) →
+          putWord FORM (putWord (formSize (length palette) (length body)) (putWord ILBM (putWord BMHD (putWord 20 (h ++ r)))))
+          ≡ putWord FORM (putWord (formSize (length palette) (length body)) (putWord ILBM (putWord BMHD (putWord 20 h)))) ++ r
+      head-joins h r = refl
+
+  pub file-length : length (pictureFile b palette frame shape) ≡ 8 + formSize (length palette) (length body)
+  file-length =
+      rw file-parts
+      (simp (length-append, header-length b, palette-length palette, length-replicate) (omega arith))
