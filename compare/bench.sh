@@ -1,6 +1,6 @@
 #!/bin/sh
-# The benchmark, or the part of it that is named: structure, frames, rows, pictures or growth. Frames are timed beside libavcodec too, where
-# pkg-config finds it.
+# The benchmark, or the part of it that is named: structure, frames, shapes, rows, pictures or growth. Frames are timed beside libavcodec
+# too, where pkg-config finds it.
 set -eu
 cd "$(dirname "$0")"
 CARGO_TARGET_DIR=${CARGO_TARGET_DIR:-$PWD/../target/cargo}

@@ -1,8 +1,9 @@
 """Makes the files of another program: python3 outside/make.py FOLDER
 
 Needs Debian's netpbm. ppmtoilbm writes each picture, and ilbmtoppm reads it back to the
-PPM that stands beside it. Where 01 has the library refuse the rows, the number stands
-beside it too, and the PPM, if there is one, has the palette.
+PPM that stands beside it; the mask that was handed in, if there is one, stands there as
+PBM, with 1 for the pixels that show. Where 01 has the library refuse the rows, the number
+stands beside it too, and the PPM, if there is one, has the palette.
 """
 
 import pathlib
@@ -10,7 +11,6 @@ import subprocess
 import sys
 
 PLANES = {1: (13, 7), 2: (17, 5), 3: (31, 9), 4: (37, 11), 5: (23, 6), 6: (45, 8), 7: (50, 9), 8: (61, 11)}
-MASK = b"P1 37 11\n" + b"0 1 1\n" * 135 + b"0 1\n"
 TEXTS = "-name Ring -author me -copyright 1985 -annotation Rings. -text odd -lace -hires".split()
 
 
@@ -21,6 +21,12 @@ def numbers(width, height, colours, run=19):
         yield (x * x // 7 + 3 * y + x * y // 11 if y % 2 else x // run + y) % colours
 
 
+def pbm(width, bits):
+    """A plain PBM of these bits."""
+    lines = [" ".join(map(str, bits[n : n + width])) + "\n" for n in range(0, len(bits), width)]
+    return f"P1\n{width} {len(lines)}\n{''.join(lines)}".encode()
+
+
 def colour(k):
     return bytes([k * 37 % 256, (k * 91 + 13) % 256, 255 - k * 53 % 256])
 
@@ -28,6 +34,9 @@ def colour(k):
 def ppm(width, height, colours, run=19):
     pixels = b"".join(map(colour, numbers(width, height, colours, run)))
     return b"P6\n%d %d\n255\n" % (width, height) + pixels
+
+
+MASK = pbm(37, [int(n % 3 > 0) for n in range(37 * 11)])
 
 
 def run(*words, given=b""):
@@ -65,6 +74,8 @@ def main():
     for name, picture, words in pictures(str(mask)):
         file = run("ppmtoilbm", "-quiet", *words, given=picture)
         (folder / f"{name}.ilbm").write_bytes(file)
+        if "-maskfile" in words:
+            (folder / f"{name}.pbm").write_bytes(MASK)
         if name in REFUSED:
             (folder / f"{name}.refused").write_text(f"{REFUSED[name]}\n")
         if REFUSED.get(name) != 41:

@@ -3,7 +3,8 @@
 Needs Debian's grafx2, xvfb, xdotool, pike8.0-core, pike8.0-image, libtwelvemonkeys-java,
 openjdk-17-jdk-headless and netpbm. Each program is handed a picture as PNG or PPM and saves
 it. Beside the file stands the PPM that ilbmtoppm reads from it, which must be the pixels
-that were handed over, or the number with which the papers have the library refuse it.
+that were handed over, and a PBM with 1 for those that show if one colour was transparent;
+or the number with which the papers have the library refuse it.
 """
 
 import pathlib
@@ -12,12 +13,14 @@ import sys
 import tempfile
 import zlib
 
-from make import PLANES, colour, numbers, ppm, run
+from make import PLANES, colour, numbers, pbm, ppm, run
 from others import grafx2
 
 HERE = pathlib.Path(__file__).parent / "others"
 NAMES = "common-lang", "common-io", "common-image", "imageio-core", "imageio-iff"
 JARS = ":".join(f"/usr/share/java/{name}.jar" for name in NAMES)
+CLEAR = 5  # the transparent colour of one picture
+SHAPES = {"grafx2_texts": pbm(37, [int(k != CLEAR) for k in numbers(37, 11, 16)])}
 REFUSED = {"grafx2_bytes": 20, "pike_true24": 41, "java_packed": 7, "java_plain": 7}
 
 
@@ -43,7 +46,7 @@ def given(width, height, colours, palette=None, more=b"", steps=19):
 def texts():
     """Three ranges to cycle and a transparent colour."""
     ranges = b"".join(struct.pack(">HHBB", *one) for one in ((78, 1, 1, 4), (780, 3, 5, 9), (0, 0, 10, 15)))
-    return chunk(b"tRNS", b"\xff" * 5 + b"\0") + chunk(b"crNg", ranges)
+    return chunk(b"tRNS", b"\xff" * CLEAR + b"\0") + chunk(b"crNg", ranges)
 
 
 def for_grafx2():
@@ -91,6 +94,8 @@ def keep(folder, name, file, shown):
     read = run("ppmtoppm", given=run("ilbmtoppm", "-quiet", given=file))
     assert read == shown, f"{name}: other pixels than were handed over"
     (folder / f"{name}.ppm").write_bytes(read)
+    if name in SHAPES:
+        (folder / f"{name}.pbm").write_bytes(SHAPES[name])
 
 
 def main():

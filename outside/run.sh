@@ -1,9 +1,10 @@
 #!/bin/sh
 # The library beside other programs. Needs Debian's netpbm and ffmpeg, and target/staticlib/libflorinhado.a (./library).
-# Remakes netpbm's files of outside/files, reads all, then has ilbmtoppm and ffmpeg read pictures that the library writes.
+# Remakes netpbm's files of outside/files, reads all, then has ilbmtoppm and ffmpeg read pictures that the library writes, and
+# ilbmtoppm the shapes of brushes.
 set -eu
 cd "$(dirname "$0")/.."
-for program in ppmtoilbm ilbmtoppm ppmtoppm ffmpeg; do
+for program in ppmtoilbm ilbmtoppm ppmtoppm pamtopnm ffmpeg; do
     command -v "$program" > /dev/null || { echo "$program is missing: it is in Debian's netpbm or ffmpeg" >&2; exit 2; }
 done
 CARGO_TARGET_DIR=${CARGO_TARGET_DIR:-$PWD/target/cargo}
@@ -12,7 +13,7 @@ cargo build --offline --quiet --release -p outside
 outside=$CARGO_TARGET_DIR/release/outside
 work=target/outside
 rm -rf "$work"
-mkdir -p "$work/written" "$work/apart"
+mkdir -p "$work/written" "$work/brushes" "$work/apart"
 
 by_netpbm() {
     ilbmtoppm -quiet "$1" | ppmtoppm
@@ -62,6 +63,22 @@ for file in "$work"/written/*.ilbm; do
     count=$((count + 1))
 done
 echo "$count pictures of the library read by ilbmtoppm and ffmpeg, the same pixels"
+
+# In a PBM that ilbmtoppm makes of a mask or a transparent colour, black, 1, are the pixels that show.
+"$outside" brushes "$work/brushes"
+"$outside" read "$work/brushes"
+count=0
+for file in "$work"/brushes/*.ilbm; do
+    case $file in
+    */masking1_planes8_0_*) by_netpbm "$file" | cmp - "${file%.ilbm}.ppm" ;; # ffmpeg shows others, of netpbm's files too
+    *) both "$file" "${file%.ilbm}.ppm" ;;
+    esac
+    ilbmtoppm -quiet -maskfile "$work/mask.pbm" "$file" > "$work/shown.ppm"
+    pamtopnm -plain "$work/mask.pbm" > "$work/mask.txt"
+    pamtopnm -plain "${file%.ilbm}.pbm" | cmp - "$work/mask.txt" || { echo "$file: mask"; exit 1; }
+    count=$((count + 1))
+done
+echo "$count brushes of the library read by ilbmtoppm -maskfile, the same shapes"
 
 # Told only: files on which readers differ.
 "$outside" apart "$work/apart"

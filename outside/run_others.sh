@@ -13,7 +13,7 @@ cargo build --offline --quiet --release -p outside
 outside=$CARGO_TARGET_DIR/release/outside
 work=target/others
 rm -rf "$work"
-mkdir -p "$work/written" "$work/pike" "$work/java" "$work/png" "$work/grafx2"
+mkdir -p "$work/written" "$work/brushes" "$work/pike" "$work/java" "$work/png" "$work/grafx2"
 
 python3 -B outside/make_others.py "$work/files"
 for file in "$work"/files/*; do
@@ -22,11 +22,11 @@ done
 echo "outside/files: $(ls "$work/files" | grep -c 'lbm$') files remade, the same bytes"
 "$outside" read outside/files
 
-# same PROGRAM: tells which of the PPM files in its folder have the library's pixels.
+# same PROGRAM FOLDER: the PPM files in the program's folder have the library's pixels.
 same() {
     count=0
     for shown in "$work/$1"/*.ppm; do
-        cmp "$shown" "$work/written/$(basename "$shown")"
+        cmp "$shown" "$work/$2/$(basename "$shown")"
         count=$((count + 1))
     done
     echo "$count pictures of the library read by $1, the same pixels"
@@ -34,16 +34,20 @@ same() {
 
 "$outside" write "$work/written"
 pike8.0 outside/others/ilbm.pike read "$work/written" "$work/pike"
-same pike
+same pike written
+rm "$work"/pike/*.ppm
+"$outside" brushes "$work/brushes"
+pike8.0 outside/others/ilbm.pike read "$work/brushes" "$work/pike"
+same pike brushes
 jars=/usr/share/java
 jars=$jars/common-lang.jar:$jars/common-io.jar:$jars/common-image.jar:$jars/imageio-core.jar:$jars/imageio-iff.jar
 java -cp "$jars" outside/others/Ilbm.java read "$work/written" "$work/java" 2> "$work/java.log"
 echo "java fails on $(wc -l < "$work/java.log") pictures"
-same java
+same java written
 
 # GrafX2 takes five seconds for a file: all plane counts, plain and packed, at two widths.
 python3 -B outside/others/grafx2.py "$work/png" "$work"/written/*_17.ilbm "$work"/written/*_319.ilbm
 for shown in "$work"/png/*.png; do
     pngtopam "$shown" | ppmtoppm > "$work/grafx2/$(basename "$shown" .png).ppm"
 done
-same grafx2
+same grafx2 written

@@ -163,6 +163,10 @@ size_t iff_count_pictures(const uint8_t *file, size_t file_length,
  *   43  compression of BMHD over 1
  *   24  w, h or nPlanes of BMHD 0, and there is a BODY
  *
+ * The calls on its rows have more, in this order: 25 for no BODY, 29 for a start
+ * place beyond its end, 28 for what is lent in a wrong length, 44 where a shape
+ * is asked for and masking is 3, 27 and 26 for a row of the BODY.
+ *
  * Pictures have the numbers from 0 in file order. A property counts if it
  * stands directly in the picture's FORM before the first BODY; of several the
  * last. If there is none, the last one in the PROP ILBM of the nearest LIST
@@ -291,6 +295,38 @@ size_t ilbm_frame(const uint8_t *file, size_t file_length, size_t picture,
                   size_t *leftover);
 
 /*
+ * Writes one scan line as ilbm_line does, and its shape beside it: a byte a
+ * pixel, 1 where it shows and 0 where not. With masking 0 every pixel shows,
+ * with 1 where the mask row's bit is 1, with 2 where the colour number is
+ * another than the transparent one. Refusals: those of ilbm_line, 28 also if
+ * the shape hasn't w bytes, and right after 28 44 for masking 3, whose shape is
+ * not worked out. A refusal changes no byte of either.
+ *
+ *   start                where the line starts in the BODY, 0 for the first one
+ *   row, row_length      the row
+ *   shape, shape_length  the shape
+ *   next                 out: where the next line starts
+ */
+size_t ilbm_shape_line(const uint8_t *file, size_t file_length, size_t picture,
+                       size_t start, uint8_t *row, size_t row_length,
+                       uint8_t *shape, size_t shape_length, size_t *place,
+                       size_t *next);
+
+/*
+ * Writes all scan lines as ilbm_frame does, and their shape in the same way,
+ * line by line. Refusals: those of ilbm_shape_line but 29, and 28 if the frame
+ * or the shape hasn't w times h bytes. A refusal changes no byte of either.
+ *
+ *   frame, frame_length  the frame
+ *   shape, shape_length  its shape
+ *   leftover             out: the bytes of the BODY after the last line
+ */
+size_t ilbm_shape_frame(const uint8_t *file, size_t file_length,
+                        size_t picture, uint8_t *frame, size_t frame_length,
+                        uint8_t *shape, size_t shape_length, size_t *place,
+                        size_t *leftover);
+
+/*
  * What the table of pictures tells of a property: its origin, one of those
  * above; where the header of the PROP that has it stands, 0 unless shared; and
  * where its data lies, file[from] to file[to - 1], 0 and 0 if it is absent.
@@ -386,6 +422,47 @@ size_t ilbm_body_frame(const uint8_t *body, size_t body_length, uint16_t w,
                        size_t frame_length, size_t *place, size_t *leftover);
 
 /*
+ * Writes one scan line as ilbm_body_line does, and its shape beside it, as
+ * ilbm_shape_line does. Refusals, in this order: 41, 42, 43, 24, 29, 28 if the
+ * row or the shape hasn't w bytes, 44 for masking 3, 27 and 26. A refusal
+ * changes no byte of either.
+ *
+ *   body, body_length                             the BODY
+ *   w, planes, masking, compression, transparent  the fields of the header
+ *   start                                         where the line starts in the BODY
+ *   row, row_length                               the row
+ *   shape, shape_length                           its shape
+ *   place                                         out: the place of 27 and 26 in the BODY
+ *   next                                          out: where the next line starts
+ */
+size_t ilbm_body_shape_line(const uint8_t *body, size_t body_length, uint16_t w,
+                            uint8_t planes, uint8_t masking,
+                            uint8_t compression, uint16_t transparent,
+                            size_t start, uint8_t *row, size_t row_length,
+                            uint8_t *shape, size_t shape_length, size_t *place,
+                            size_t *next);
+
+/*
+ * Writes all scan lines with their shape in the same way, line by line.
+ * Refusals, in this order: 41, 42, 43, 24 also for h 0, 28 if the frame or the
+ * shape hasn't w times h bytes, 44, 27 and 26. A refusal changes no byte of either.
+ *
+ *   body, body_length                                the BODY
+ *   w, h, planes, masking, compression, transparent  the fields of the header
+ *   frame, frame_length                              the frame
+ *   shape, shape_length                              its shape
+ *   place                                            out: the place of 27 and 26 in the BODY
+ *   leftover                                         out: the bytes of the BODY after the last line
+ */
+size_t ilbm_body_shape_frame(const uint8_t *body, size_t body_length,
+                             uint16_t w, uint16_t h, uint8_t planes,
+                             uint8_t masking, uint8_t compression,
+                             uint16_t transparent, uint8_t *frame,
+                             size_t frame_length, uint8_t *shape,
+                             size_t shape_length, size_t *place,
+                             size_t *leftover);
+
+/*
  * Packs one row by ByteRun1. Refusals: 31 if the row hasn't 1 to 8,192 bytes,
  * then 32 if the result is longer than the buffer. row_length +
  * (row_length + 127) / 128 bytes are always enough.
@@ -401,27 +478,31 @@ size_t byterun_pack(const uint8_t *row, size_t row_length, uint8_t *out,
  * Writes one picture as a file: a FORM ILBM with BMHD, CMAP (unless the palette
  * is empty) and BODY. Refusals, in this order, none with a place:
  *
- *   33  w or h 0, planes not 1 to 8, masking 1 or over 3, compression over 1, a
+ *   33  w or h 0, planes not 1 to 8, masking over 3, compression over 1, a
  *       palette that is no multiple of 3 or over 768 bytes, or a frame that
  *       hasn't w times h bytes
  *   34  a colour number of 2 to the plane count or more
+ *   45  a shape with a byte over 1, or that hasn't w times h bytes for masking
+ *       1 and none for the rest
  *   35  the file would be over 16,777,216 bytes
  *   32  the file is longer than the buffer
  *
- * 824 + h * planes * r bytes are always enough for the file, with r = 2 *
- * ((w + 15) / 16), and r + (r + 127) / 128 in the place of r if it is packed;
- * one more if the BODY's size is odd.
+ * 824 + h * rows * r bytes are always enough for the file, with rows = planes,
+ * or planes + 1 for masking 1, and r = 2 * ((w + 15) / 16), or r + (r + 127) /
+ * 128 in the place of r if it is packed; one more if the BODY's size is odd.
  *
  *   w, h                      pixels in a row, and rows
  *   x, y                      the picture's place on its page
  *   planes                    1 to 8
- *   masking                   0 none, 2 a transparent colour, 3 lasso
+ *   masking                   0 none, 1 a mask plane, 2 a transparent colour, 3 lasso
  *   compression               0 none, 1 ByteRun1
  *   transparent               the colour number of masking 2 and 3
  *   x_aspect, y_aspect        the shape of a pixel, width beside height
  *   page_width, page_height   the page
  *   palette, palette_length   three bytes a colour, red, green, blue
  *   frame, frame_length       the colour numbers, a byte a pixel, line by line
+ *   shape, shape_length       for masking 1 a byte a pixel, 1 where it shows and 0
+ *                             where not, which the mask plane is made of; else none
  *   out, out_length           the buffer
  *   length                    out: the length of the file
  */
@@ -430,7 +511,8 @@ size_t ilbm_write(uint16_t w, uint16_t h, int16_t x, int16_t y, uint8_t planes,
                   uint8_t x_aspect, uint8_t y_aspect, int16_t page_width,
                   int16_t page_height, const uint8_t *palette,
                   size_t palette_length, const uint8_t *frame,
-                  size_t frame_length, uint8_t *out, size_t out_length,
+                  size_t frame_length, const uint8_t *shape,
+                  size_t shape_length, uint8_t *out, size_t out_length,
                   size_t *length);
 
 /*
@@ -464,7 +546,7 @@ static inline const char *florinhado_meaning(size_t number)
     case 25: return "rows asked and no BODY";
     case 26: return "the BODY ends before the row is full";
     case 27: return "a copy or repeat oversteps its row";
-    case 28: return "row or frame of a wrong length";
+    case 28: return "row, frame or shape of a wrong length";
     case 29: return "start place beyond the BODY's end";
     case 31: return "a row to pack has 1 to 8,192 bytes";
     case 32: return "result longer than the buffer";
@@ -475,6 +557,8 @@ static inline const char *florinhado_meaning(size_t number)
     case 41: return "nPlanes 9 or more: at most 8 planes are known";
     case 42: return "masking 4 or more: only 0 to 3 are known";
     case 43: return "compression 2 or more: only 0 and 1 are known";
+    case 44: return "masking 3, a lasso: its shape is not worked out";
+    case 45: return "a shape with a byte over 1 or of a wrong length";
     default: return "unknown number";
     }
 }

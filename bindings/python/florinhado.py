@@ -39,12 +39,25 @@ Traceback (most recent call last):
     ...
 florinhado.Refused: refusal 34 at 0: a colour number with more bits than planes
 
+A brush has a shape, 1 for each pixel that shows and 0 for each that doesn't: by a mask plane,
+which is written of it, or by a transparent colour.
+
+>>> brush = write(fields._replace(masking=1), b"", [1, 2, 3], shape=[1, 0, 1])
+>>> [list(told) for told in open(brush).picture(0).frame_with_shape()]
+[[1, 2, 3], [1, 0, 1]]
+>>> list(shape_frame(write(fields._replace(masking=2, transparent=3), b"", [1, 2, 3]), 0)[1])
+[1, 1, 0]
+>>> write(fields._replace(masking=1), b"", [1, 2, 3], shape=[1, 0, 2])
+Traceback (most recent call last):
+    ...
+florinhado.Refused: refusal 45 at 0: a shape with a byte over 1 or of a wrong length
+
 Every call on a picture is refused by the file's structure, 1 to 12; then with 20 if there
 is no such picture, 21 if no BMHD counts, 22 for several BODYs, 23 for a property of a
 wrong size; then for the header: 41 nPlanes over 8, 42 masking over 3, 43 compression over
 1, 24 w, h or nPlanes 0 with a BODY. They are tried in this order. The calls on its rows
-have more: 25 for no BODY, 29 for a start place beyond its end, 27 and 26 with the place in
-the BODY.
+have more: 25 for no BODY, 29 for a start place beyond its end, 44 where a shape is asked for
+and masking is 3, 27 and 26 with the place in the BODY.
 
 >>> file = pathlib.Path("../../samples/headers.iff").read_bytes()
 >>> frame(file, 2)
@@ -56,7 +69,7 @@ florinhado.Refused: refusal 43 at 0: compression 2 or more: only 0 and 1 are kno
 ...         call(file, picture)
 ...     except Refused as refused:
 ...         return refused.number
->>> calls = header, grab, destination, sprite, view_mode, palette, scan_line, frame
+>>> calls = header, grab, destination, sprite, view_mode, palette, scan_line, frame, shape_line, shape_frame
 >>> [{refusal(call, picture) for call in calls} for picture in range(6)]
 [{41}, {42}, {43}, {24}, {41}, {None}]
 """
@@ -95,7 +108,7 @@ MEANINGS = {
     25: "rows asked and no BODY",
     26: "the BODY ends before the row is full",
     27: "a copy or repeat oversteps its row",
-    28: "row or frame of a wrong length",
+    28: "row, frame or shape of a wrong length",
     29: "start place beyond the BODY's end",
     31: "a row to pack has 1 to 8,192 bytes",
     32: "result longer than the buffer",
@@ -106,6 +119,8 @@ MEANINGS = {
     41: "nPlanes 9 or more: at most 8 planes are known",
     42: "masking 4 or more: only 0 to 3 are known",
     43: "compression 2 or more: only 0 and 1 are known",
+    44: "masking 3, a lasso: its shape is not worked out",
+    45: "a shape with a byte over 1 or of a wrong length",
 }
 
 
@@ -301,14 +316,20 @@ _ilbm_view_mode = _declare("ilbm_view_mode", _PICTURE, [_LONG] + _ORIGIN)
 _ilbm_palette = _declare("ilbm_palette", _PICTURE, _ORIGIN + [_SIZE] * 2)
 _ilbm_line = _declare("ilbm_line", _PICTURE + [_SIZE] + _BYTES, [_SIZE])
 _ilbm_frame = _declare("ilbm_frame", _PICTURE + _BYTES, [_SIZE])
+_SHAPED = _BYTES * 2  # colour numbers and their shape
+_ilbm_shape_line = _declare("ilbm_shape_line", _PICTURE + [_SIZE] + _SHAPED, [_SIZE])
+_ilbm_shape_frame = _declare("ilbm_shape_frame", _PICTURE + _SHAPED, [_SIZE])
 _ilbm_pictures = _declare("ilbm_pictures", _BYTES + [ctypes.POINTER(_SIZE), _SIZE], [_SIZE])
 _ilbm_bmhd = _declare("ilbm_bmhd", _BYTES, _HEADER, placed=False)
 _LAYOUT = [_BYTE] * 3  # planes, masking, compression
 _ilbm_body_line = _declare("ilbm_body_line", _BYTES + [_WORD] + _LAYOUT + [_SIZE] + _BYTES, [_SIZE])
 _ilbm_body_frame = _declare("ilbm_body_frame", _BYTES + [_WORD] * 2 + _LAYOUT + _BYTES, [_SIZE])
+_MASKED = _LAYOUT + [_WORD]  # the transparent colour too
+_ilbm_body_shape_line = _declare("ilbm_body_shape_line", _BYTES + [_WORD] + _MASKED + [_SIZE] + _SHAPED, [_SIZE])
+_ilbm_body_shape_frame = _declare("ilbm_body_shape_frame", _BYTES + [_WORD] * 2 + _MASKED + _SHAPED, [_SIZE])
 _byterun_pack = _declare("byterun_pack", _BYTES * 2, [_SIZE], placed=False)
 _FIELDS = _HEADER[:7] + _HEADER[8:]  # without pad1
-_ilbm_write = _declare("ilbm_write", _FIELDS + _BYTES * 3, [_SIZE], placed=False)
+_ilbm_write = _declare("ilbm_write", _FIELDS + _BYTES * 4, [_SIZE], placed=False)
 
 
 def check(file):
@@ -424,6 +445,34 @@ def frame(file, picture):
     return room.raw[:size]
 
 
+def shape_line(file, picture, start=0):
+    """The colour numbers of a scan line, its shape, and the next line's place in the BODY.
+
+    The shape has 1 for each pixel that shows and 0 for each that doesn't; Refused with 44
+    for masking 3, whose shape is not worked out.
+    """
+    with _lent(file) as lent:
+        width = Header(*_ilbm_header(*lent, picture)[:-2]).width
+        row, shape = _two(width)
+        (following,) = _ilbm_shape_line(*lent, picture, start, row, width, shape, width)
+    return row.raw[:width], shape.raw[:width], following
+
+
+def shape_frame(file, picture):
+    """The colour numbers of all scan lines, and their shape; Refused with 44 as shape_line."""
+    with _lent(file) as lent:
+        fields = Header(*_ilbm_header(*lent, picture)[:-2])
+        size = fields.width * fields.height
+        room, shape = _two(size)
+        _ilbm_shape_frame(*lent, picture, room, size, shape, size)
+    return room.raw[:size], shape.raw[:size]
+
+
+def _two(size):
+    """Room for so many colour numbers, and for their shape."""
+    return [ctypes.create_string_buffer(size or 1) for _ in range(2)]
+
+
 def bmhd(data):
     """The fields of a BMHD by its bytes alone; Refused with 23 unless it has 20.
 
@@ -467,6 +516,40 @@ def body_frame(body, fields):
     with _lent(body) as lent:
         _ilbm_body_frame(*lent, fields.width, fields.height, *_layout(fields), room, size)
     return room.raw[:size]
+
+
+def body_shape_line(body, fields, start=0):
+    """A scan line of any bytes as a BODY, its shape, and the next line's place.
+
+    Refused as body_line, and with 44 for masking 3.
+
+    >>> fields = Header(width=3, planes=2, masking=2, transparent=2)
+    >>> row, shape, following = body_shape_line(bytes.fromhex("a0006000"), fields)
+    >>> list(row), list(shape), following
+    ([1, 2, 3], [1, 0, 1], 4)
+    """
+    width = fields.width
+    row, shape = _two(width)
+    given = width, *_layout(fields), fields.transparent, start
+    with _lent(body) as lent:
+        (following,) = _ilbm_body_shape_line(*lent, *given, row, width, shape, width)
+    return row.raw[:width], shape.raw[:width], following
+
+
+def body_shape_frame(body, fields):
+    """All scan lines of any bytes as a BODY, and their shape; Refused as body_shape_line, but without 29.
+
+    >>> body_shape_frame(b"", Header(width=3, height=2, planes=1, masking=3))
+    Traceback (most recent call last):
+        ...
+    florinhado.Refused: refusal 44 at 0: masking 3, a lasso: its shape is not worked out
+    """
+    size = fields.width * fields.height
+    room, shape = _two(size)
+    given = fields.width, fields.height, *_layout(fields), fields.transparent
+    with _lent(body) as lent:
+        _ilbm_body_shape_frame(*lent, *given, room, size, shape, size)
+    return room.raw[:size], shape.raw[:size]
 
 
 _FEW = 4096  # places of the table that is lent first
@@ -650,9 +733,40 @@ class Picture:
     def frame(self):
         """The colour numbers of all scan lines."""
         fields, body = self.header().value, self.body()
-        if fields.width * fields.height // _PIXELS_OF_A_BYTE > len(body):
-            return b"".join(self.lines())  # refused, and no room is made for it
+        if _too_short(body, fields):
+            return b"".join(self.lines())
         return body_frame(body, fields)
+
+    def scan_line_with_shape(self, start=0):
+        """The colour numbers of a scan line, its shape, and the next line's place in the BODY."""
+        fields = self.header().value
+        return body_shape_line(self.body(), fields, start)
+
+    def lines_with_shape(self):
+        """The scan lines with their shape in turn, up to the first that is refused.
+
+        >>> picture = open("../../samples/headers.iff").picture(5)
+        >>> [(list(row), list(shape)) for row, shape in picture.lines_with_shape()]
+        [([1, 2, 3], [1, 1, 1]), ([2, 1, 0], [1, 1, 1])]
+        """
+        fields, body = self.header().value, self.body()
+        start = 0
+        for _ in range(fields.height):
+            row, shape, start = body_shape_line(body, fields, start)
+            yield row, shape
+
+    def frame_with_shape(self):
+        """The colour numbers of all scan lines, and their shape; Refused with 44 for masking 3."""
+        fields, body = self.header().value, self.body()
+        if _too_short(body, fields):
+            rows, shapes = zip(*self.lines_with_shape())
+            return b"".join(rows), b"".join(shapes)
+        return body_shape_frame(body, fields)
+
+
+def _too_short(body, fields):
+    """A frame is refused for the length of its BODY, and no room is made for it."""
+    return fields.width * fields.height // _PIXELS_OF_A_BYTE > len(body)
 
 
 def pack(row):
@@ -663,13 +777,15 @@ def pack(row):
     return room.raw[:made]
 
 
-def write(fields, palette, frame):
+def write(fields, palette, frame, shape=b""):
     """A file with one picture of these fields (pad1 is not looked at), palette and
-    colour numbers, line by line; Refused with 33, 34 or 35."""
+    colour numbers, line by line; with masking 1 also of a shape, 1 for each pixel that
+    shows and 0 for each that doesn't. Refused with 33, 34, 45 or 35."""
     row = (fields.width + 15) // 16 * 2
-    body = fields.height * fields.planes * (row + (row + 127) // 128)
+    rows = fields.planes + (fields.masking == 1)
+    body = fields.height * rows * (row + (row + 127) // 128)
     room = ctypes.create_string_buffer(min(825 + body, 16777216))
     numbers = fields[:7] + fields[8:]
-    with _lent(palette) as colours, _lent(frame) as pixels:
-        (length,) = _ilbm_write(*numbers, *colours, *pixels, room, len(room))
+    with _lent(palette) as colours, _lent(frame) as pixels, _lent(shape) as shown:
+        (length,) = _ilbm_write(*numbers, *colours, *pixels, *shown, room, len(room))
     return room.raw[:length]

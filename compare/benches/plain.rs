@@ -45,7 +45,7 @@ fn picture(compression: u8) -> (Vec<u8>, usize) {
         let byte = random.byte();
         frame.resize(frame.len() + count, byte);
     }
-    (write_picture(&fields, &[0; 768], &frame, usize::MAX).unwrap(), frame.len())
+    (write_picture(&fields, &[0; 768], &frame, b"", usize::MAX).unwrap(), frame.len())
 }
 
 fn main() {

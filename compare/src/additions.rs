@@ -52,7 +52,7 @@ fn compare_pictures(before: &[u8], later: &Later, asked: &[Asked], census: &mut 
     for asked in asked {
         let old = Answers::of_library(before, asked);
         let new = Answers::of_library(&later.file, asked);
-        census.add(u64::from(old.is_shown()), "pictures", "shown");
+        census.add(u64::from(old.rows.is_shown()), "pictures", "shown");
         let moves: Vec<usize> = old.props().into_iter().map(|place| later.moved(place) - place).collect();
         census.add(u64::from(moves.iter().any(|by| *by > 0)), "pictures", "with a PROP moved");
         let apart = moves.windows(2).any(|pair| pair[0] != pair[1]);

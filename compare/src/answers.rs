@@ -7,13 +7,11 @@ use crate::grab::hot_spot;
 use crate::header::header;
 use crate::picture_table::data_moved;
 use crate::property::{origin, property};
+use crate::row_answers::{ByNumber, BySecond, RowAnswers};
 use florinhado::{Destination, File, Header, HotSpot, Origin, Picture, Property, Refused};
 
 /// A property with its origin, or the refusal.
 type Told<T> = Result<Property<T>, Refused>;
-
-/// What a call on rows tells, and the bytes in what was lent to it.
-type Written = (Result<usize, Refused>, Vec<u8>);
 
 #[derive(Clone, Debug, PartialEq)]
 pub struct Answers {
@@ -26,23 +24,12 @@ pub struct Answers {
     palette: Told<Vec<u8>>,
     /// Where the CMAP that counts has its data in the file.
     extent: Option<(usize, usize)>,
-    /// The next place, and the row.
-    lines: Vec<Written>,
-    /// How many bytes are left over, and the frame.
-    frames: Vec<Written>,
+    pub rows: RowAnswers,
 }
 
 impl Answers {
     pub fn of_library(file: &[u8], asked: &Asked) -> Answers {
         let picture = asked.picture;
-        let line = |(start, row): &(usize, Vec<u8>)| {
-            let mut row = row.clone();
-            (florinhado::scan_line(file, picture, *start, &mut row), row)
-        };
-        let frame = |frame: &Vec<u8>| {
-            let mut frame = frame.clone();
-            (florinhado::frame(file, picture, &mut frame), frame)
-        };
         let palette = florinhado::palette(file, picture, &asked.default);
         Answers {
             header: florinhado::header(file, picture),
@@ -52,8 +39,7 @@ impl Answers {
             view_mode: florinhado::view_mode(file, picture),
             extent: palette.ok().and_then(|told| extent(file, &told)),
             palette: palette.map(bytes),
-            lines: asked.lines.iter().map(line).collect(),
-            frames: asked.frames.iter().map(frame).collect(),
+            rows: RowAnswers::of(&ByNumber(file, picture), asked),
         }
     }
 
@@ -68,14 +54,6 @@ impl Answers {
     }
 
     fn of_picture(file: &[u8], picture: &Picture, asked: &Asked) -> Answers {
-        let line = |(start, row): &(usize, Vec<u8>)| {
-            let mut row = row.clone();
-            (picture.line_into(*start, &mut row), row)
-        };
-        let frame = |frame: &Vec<u8>| {
-            let mut frame = frame.clone();
-            (picture.frame_into(&mut frame), frame)
-        };
         let palette = picture.palette(&asked.default);
         Answers {
             header: picture.header(),
@@ -85,8 +63,7 @@ impl Answers {
             view_mode: picture.view_mode(),
             extent: palette.ok().and_then(|told| extent(file, &told)),
             palette: palette.map(bytes),
-            lines: asked.lines.iter().map(line).collect(),
-            frames: asked.frames.iter().map(frame).collect(),
+            rows: RowAnswers::of(picture, asked),
         }
     }
 
@@ -94,14 +71,6 @@ impl Answers {
         let picture = asked.picture;
         let told = second::properties(file, picture).map_err(refused);
         let told = told.as_ref().map_err(|told| *told);
-        let line = |(start, row): &(usize, Vec<u8>)| {
-            let told = second::scan_line(file, picture, *start, row.len());
-            written(told.map(|line| (line.next, line.colours)), row)
-        };
-        let frame = |frame: &Vec<u8>| {
-            let told = second::frame(file, picture, frame.len());
-            written(told.map(|told| (told.leftover, told.colours)), frame)
-        };
         let palette = second::palette(file, picture, &asked.default).map_err(refused);
         Answers {
             header: told
@@ -117,14 +86,12 @@ impl Answers {
             palette: palette.and_then(|bytes| {
                 told.map(|told| Property { value: bytes.to_vec(), origin: origin(told.colour_map.origin) })
             }),
-            lines: asked.lines.iter().map(line).collect(),
-            frames: asked.frames.iter().map(frame).collect(),
+            rows: RowAnswers::of(&BySecond(file, picture), asked),
         }
     }
 
     /// Every call refuses, and what was lent is as it was.
     pub fn all_refused(refused: Refused, asked: &Asked) -> Answers {
-        let untouched = |lent: &Vec<u8>| (Err(refused), lent.clone());
         Answers {
             header: Err(refused),
             grab: Err(refused),
@@ -133,8 +100,7 @@ impl Answers {
             view_mode: Err(refused),
             palette: Err(refused),
             extent: None,
-            lines: asked.lines.iter().map(|(_, row)| untouched(row)).collect(),
-            frames: asked.frames.iter().map(untouched).collect(),
+            rows: RowAnswers::of(&refused, asked),
         }
     }
 
@@ -169,20 +135,9 @@ impl Answers {
         origins.into_iter().filter_map(place).collect()
     }
 
-    /// The first frame that was asked for, or what it is refused with.
-    pub fn frame(&self) -> Result<&[u8], Refused> {
-        let (told, bytes) = &self.frames[0];
-        told.map(|_| &bytes[..])
-    }
-
     /// What the picture itself is refused with, or 0.
     pub fn number(&self) -> usize {
         self.header.map_or_else(|refused| refused.number, |_| 0)
-    }
-
-    /// Whether a frame is shown.
-    pub fn is_shown(&self) -> bool {
-        self.frames.iter().any(|(told, _)| told.is_ok())
     }
 }
 
@@ -194,14 +149,6 @@ fn bytes(told: Property<&[u8]>) -> Property<Vec<u8>> {
 fn extent(file: &[u8], told: &Property<&[u8]>) -> Option<(usize, usize)> {
     let from = (told.value.as_ptr() as usize).wrapping_sub(file.as_ptr() as usize);
     (told.origin != Origin::Absent).then_some((from, from + told.value.len()))
-}
-
-/// The second reader's result as it would stand in what was lent.
-fn written(told: Result<(usize, Vec<u8>), second::Refused>, lent: &[u8]) -> Written {
-    match told {
-        Ok((number, bytes)) => (Ok(number), bytes),
-        Err(told) => (Err(refused(told)), lent.to_vec()),
-    }
 }
 
 fn moved<T>(told: Told<T>, place: &impl Fn(usize) -> usize) -> Told<T> {

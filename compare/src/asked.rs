@@ -1,5 +1,6 @@
 //! What is asked of a picture beside its number.
 
+use florinhado::Shaped;
 use second::random::Random;
 use second::{Properties, Refused};
 
@@ -11,10 +12,12 @@ pub struct Asked {
     pub picture: usize,
     /// The default palette.
     pub default: Vec<u8>,
-    /// The start places of scan lines with the rows lent for them.
+    /// The start places of scan lines with the rows lent for them, without and with a shape.
     pub lines: Vec<(usize, Vec<u8>)>,
+    pub shape_lines: Vec<(usize, Shaped)>,
     pub frames: Vec<Vec<u8>>,
-    /// Whether the first of them has the right length.
+    pub shape_frames: Vec<Shaped>,
+    /// Whether the first of each frames has the right length.
     pub is_whole: bool,
 }
 
@@ -31,11 +34,14 @@ impl Asked {
         let is_whole = width * height <= GREATEST_FRAME;
         let frame = if is_whole { width * height } else { 1 };
         let count = random.below(3) * 3;
+        let places = starts(random, file, told, width);
         Asked {
             picture,
             default: random.bytes(count),
-            lines: lines(random, file, told, width),
+            lines: lines(random, &places, width),
+            shape_lines: shape_lines(random, &places, width),
             frames: lengths(random, frame).map(|length| random.bytes(length)).to_vec(),
+            shape_frames: shapes(random, frame).to_vec(),
             is_whole,
         }
     }
@@ -47,23 +53,40 @@ impl Asked {
     }
 }
 
-/// The first two scan lines, one from any place up to a little beyond the
-/// BODY's end, and one into a row of a wrong length.
-fn lines(
-    random: &mut Random,
-    file: &[u8],
-    told: &Result<Properties, Refused>,
-    width: usize,
-) -> Vec<(usize, Vec<u8>)> {
+/// The places of the first two scan lines, and two up to a little beyond the BODY's end.
+fn starts(random: &mut Random, file: &[u8], told: &Result<Properties, Refused>, width: usize) -> [usize; 4] {
     let found = told.as_ref().ok().and_then(|told| Some((told.header.layout(), told.body.clone()?)));
     let body = found.as_ref().map_or(0, |(_, body)| body.len());
     let line = found.map(|(layout, body)| second::body_line(&file[body], &layout, 0, width));
     let second_line = line.and_then(Result::ok).map_or(0, |line| line.next);
-    let starts = [0, second_line, random.below(body + 4)];
-    let mut asked = starts.map(|start| (start, random.bytes(width))).to_vec();
-    let [_, wrong] = lengths(random, width);
-    asked.push((random.below(body + 4), random.bytes(wrong)));
-    asked
+    [0, second_line, random.below(body + 4), random.below(body + 4)]
+}
+
+/// A row for each place, the last of a wrong length.
+fn lines(random: &mut Random, places: &[usize; 4], width: usize) -> Vec<(usize, Vec<u8>)> {
+    let [right, wrong] = lengths(random, width);
+    let lent = [right, right, right, wrong].map(|length| random.bytes(length));
+    places.iter().copied().zip(lent).collect()
+}
+
+/// A row with a shape for each place, and one of a wrong length for either at the last.
+fn shape_lines(random: &mut Random, places: &[usize; 4], width: usize) -> Vec<(usize, Shaped)> {
+    let mut lent = Vec::new();
+    for place in &places[..3] {
+        lent.push((*place, shaped(random, width, width)));
+    }
+    lent.extend(shapes(random, width)[1..].iter().map(|wrong| (places[3], wrong.clone())));
+    lent
+}
+
+/// Room of the right length for colours and shape, of a wrong one for the colours, and for the shape.
+fn shapes(random: &mut Random, right: usize) -> [Shaped; 3] {
+    let [_, wrong] = lengths(random, right);
+    [(right, right), (wrong, right), (right, wrong)].map(|(colours, shape)| shaped(random, colours, shape))
+}
+
+fn shaped(random: &mut Random, colours: usize, shape: usize) -> Shaped {
+    Shaped { colours: random.bytes(colours), shape: random.bytes(shape) }
 }
 
 /// The right length and a wrong one.

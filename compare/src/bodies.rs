@@ -2,15 +2,17 @@
 
 use crate::borrowed::same;
 use crate::chunks::{chunk, group, Fields};
-use crate::{body_frame, body_line, frame, line};
-use florinhado::Refused;
+use crate::{body_frame, body_line, body_shape_frame, body_shape_line, frame, line, shape_frame, shape_line};
+use florinhado::{Header, Refused};
 use second::random::Random;
+use second::Lent;
 use std::collections::BTreeSet;
 
 /// A FORM ILBM of BMHD and BODY.
 pub struct Picture {
     pub file: Vec<u8>,
     fields: Fields,
+    transparent: u16,
     body: Vec<u8>,
 }
 
@@ -130,42 +132,74 @@ pub fn picture(random: &mut Random) -> Picture {
         width: width as u16,
         height: height as u16,
         planes: random.between(1, 8) as u8,
-        masking: random.pick(&[0, 0, 1, 1, 2, 3]),
+        masking: random.pick(&[0, 1, 1, 2, 2, 3]),
         compression: random.pick(&[0, 1, 1, 1, 1]),
     };
-    let header = fields.bmhd_with(std::array::from_fn(|_| random.byte()));
+    let mut others: [u8; 20] = std::array::from_fn(|_| random.byte());
+    let transparent = u16::from(random.byte() & random.byte());
+    others[12..14].copy_from_slice(&transparent.to_be_bytes());
+    let header = fields.bmhd_with(others);
     let rows = height * usize::from(fields.planes + u8::from(fields.masking == 1));
     let body = body(random, fields.compression, rows, width.div_ceil(16) * 2);
     let members = [header, chunk(b"BODY", &body)].concat();
-    Picture { file: group(b"FORM", b"ILBM", &members), fields, body }
+    Picture { file: group(b"FORM", b"ILBM", &members), fields, transparent, body }
 }
 
 impl Picture {
     /// Compares the frame, and lines from the start, from any place, from the
     /// frame's fault, from the end and beyond it; each of the file and of the
-    /// BODY alone.
+    /// BODY alone, and with its shape.
     pub fn compare(&self, random: &mut Random, faults: &mut Faults) -> Result<(), String> {
-        let (width, layout) = (usize::from(self.fields.width), self.fields.layout());
-        let size = width * usize::from(self.fields.height);
-        let told = frame::ask(&self.file, 0, size, random)?;
-        same(
-            "frame of the BODY",
-            body_frame::ask(&self.body, &layout, self.fields.height, size, random)?,
-            told,
-        )?;
+        let told = self.frame(random)?;
         if let Some(fault) = faults.of(told) {
             fault.frames += 1;
         }
         let end = self.body.len();
         for start in [0, random.below(end + 1), told.place, end, end + 1] {
-            let alone = body_line::ask(&self.body, &layout, start, width, random);
-            let told = line::ask(&self.file, 0, start, width, random)
-                .and_then(|told| same("line of the BODY", alone?, told).map(|()| told));
-            let told = told.map_err(|text| format!("line from {start}: {text}"))?;
+            let told = self.line(start, random).map_err(|text| format!("line from {start}: {text}"))?;
             if let Some(fault) = faults.of(told) {
                 fault.lines += 1;
             }
         }
         Ok(())
+    }
+
+    fn frame(&self, random: &mut Random) -> Result<Refused, String> {
+        let (height, layout) = (self.fields.height, self.fields.layout());
+        let size = usize::from(self.fields.width) * usize::from(height);
+        let told = frame::ask(&self.file, 0, size, random)?;
+        same("frame of the BODY", body_frame::ask(&self.body, &layout, height, size, random)?, told)?;
+        let both = Lent { colours: size, shape: size };
+        let shaped = shape_frame::ask(&self.file, 0, both, random)?;
+        same("frame with its shape", shaped, self.shaped(told))?;
+        let alone = body_shape_frame::ask(&self.body, &self.header(), both, random)?;
+        same("frame of the BODY with its shape", alone, shaped)?;
+        Ok(told)
+    }
+
+    fn line(&self, start: usize, random: &mut Random) -> Result<Refused, String> {
+        let (width, layout) = (usize::from(self.fields.width), self.fields.layout());
+        let told = line::ask(&self.file, 0, start, width, random)?;
+        same("line of the BODY", body_line::ask(&self.body, &layout, start, width, random)?, told)?;
+        let both = Lent { colours: width, shape: width };
+        let shaped = shape_line::ask(&self.file, 0, start, both, random)?;
+        same("line with its shape", shaped, self.shaped(told))?;
+        let alone = body_shape_line::ask(&self.body, &self.header(), start, both, random)?;
+        same("line of the BODY with its shape", alone, shaped)?;
+        Ok(told)
+    }
+
+    /// What is told with a shape where this is told without: 44 comes after 29, and before 27 and 26.
+    fn shaped(&self, told: Refused) -> Refused {
+        match (self.fields.masking, told.number) {
+            (3, number) if number != 29 => Refused { number: 44, place: 0 },
+            _ => told,
+        }
+    }
+
+    fn header(&self) -> Header {
+        let Fields { width, height, planes, masking, compression } = self.fields;
+        let transparent = self.transparent;
+        Header { width, height, planes, masking, compression, transparent, ..Header::default() }
     }
 }

@@ -24,7 +24,7 @@ fn run(file: &[u8]) {
 /// The BODY has nothing to do with the file.
 fn compare(_: &Subject, random: &mut Random, tally: &mut Tally) -> Outcome {
     let input = body_input(random);
-    let told = ask(&input.body, &input.layout, input.start, input.row_length, random);
+    let told = ask(&input.body, &input.layout, input.start, input.row.colours, random);
     tally.add(NAME, told.map_err(|text| format!("{input:?}: {text}"))?.number);
     Ok(())
 }

@@ -2,6 +2,7 @@
 
 use crate::Outcome;
 use second::random::Random;
+use second::Lent;
 use std::fmt::Debug;
 
 /// Fails with both values if they differ.
@@ -48,6 +49,26 @@ impl Buffer {
         };
         let place = n as isize - MARGIN as isize;
         same(&format!("buffer at {place}"), self.bytes[n], self.before[n])
+    }
+}
+
+/// Buffers for colour numbers and for their shape.
+pub struct Buffers {
+    pub colours: Buffer,
+    pub shape: Buffer,
+}
+
+impl Buffers {
+    pub fn new(random: &mut Random, lent: Lent) -> Buffers {
+        Buffers { colours: Buffer::new(random, lent.colours), shape: Buffer::new(random, lent.shape) }
+    }
+
+    /// Fails unless both begin with these, or are as they were where nothing is wanted, and no other
+    /// byte is changed.
+    pub fn compare(self, wanted: Option<(&[u8], &[u8])>) -> Outcome {
+        let (colours, shape) = wanted.unwrap_or((&[], &[]));
+        self.colours.compare(colours).map_err(|text| format!("colours, {text}"))?;
+        self.shape.compare(shape).map_err(|text| format!("shape, {text}"))
     }
 }
 

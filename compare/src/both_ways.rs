@@ -5,7 +5,7 @@ use crate::answers::Answers;
 use crate::asked::Asked;
 use crate::borrowed::same;
 use crate::{Outcome, Subject, Tally};
-use florinhado::{File, Refused};
+use florinhado::{File, Refused, Shaped};
 use second::random::Random;
 
 pub const WHAT: &str = "both ways";
@@ -27,8 +27,20 @@ pub fn compare(subject: &Subject, random: &mut Random, tally: &mut Tally) -> Out
 fn whole(opened: &Result<File, Refused>, asked: &Asked, by_number: &Answers) -> Outcome {
     let picture = opened.as_ref().ok().and_then(|file| file.picture(asked.picture));
     let Some(picture) = picture.filter(|_| asked.is_whole) else { return Ok(()) };
-    let wanted = by_number.frame();
+    let wanted = by_number.rows.frame();
     same("frame", picture.frame().as_deref().map_err(|refused| *refused), wanted)?;
     let lines: Result<Vec<_>, _> = picture.lines().collect();
-    same("lines", lines.map(|lines| lines.concat()), wanted.map(<[u8]>::to_vec))
+    same("lines", lines.map(|lines| lines.concat()), wanted.map(<[u8]>::to_vec))?;
+    let wanted = by_number.rows.shape_frame();
+    same("frame with its shape", picture.frame_with_shape().as_ref().map_err(|refused| *refused), wanted)?;
+    let lines: Result<Vec<_>, _> = picture.lines_with_shape().collect();
+    same("lines with their shape", lines.map(joined).as_ref().map_err(|refused| *refused), wanted)
+}
+
+fn joined(lines: Vec<Shaped>) -> Shaped {
+    let [colours, shape] = [|line: &Shaped| line.colours.clone(), |line: &Shaped| line.shape.clone()];
+    Shaped {
+        colours: lines.iter().flat_map(colours).collect(),
+        shape: lines.iter().flat_map(shape).collect(),
+    }
 }

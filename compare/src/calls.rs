@@ -1,8 +1,9 @@
 //! The calls that are compared.
 
-use crate::{bmhd, body_frame, body_line, picture_table};
+use crate::{bmhd, body_frame, body_line, body_shape_frame, body_shape_line, picture_table};
 use crate::{check, copy, data, pictures, reader, record, table, Outcome, Subject, Tally};
 use crate::{dest, frame, grab, header, line, pack, palette, sprite, view_mode, write};
+use crate::{shape_frame, shape_line};
 use second::random::Random;
 
 /// One exported call.
@@ -33,10 +34,14 @@ pub const CALLS: &[Call] = &[
     palette::CALL,
     line::CALL,
     frame::CALL,
+    shape_line::CALL,
+    shape_frame::CALL,
     picture_table::CALL,
     bmhd::CALL,
     body_line::CALL,
     body_frame::CALL,
+    body_shape_line::CALL,
+    body_shape_frame::CALL,
     pack::CALL,
     write::CALL,
 ];

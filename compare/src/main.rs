@@ -4,7 +4,7 @@
 
 use compare::fixed::{examples, variations};
 use compare::header_faults::HeaderFaults;
-use compare::{dump, worked, Origins, Subject, Tally};
+use compare::{dump, worked, Brushes, Origins, Subject, Tally};
 use second::generate;
 use second::random::Random;
 use std::process::ExitCode;
@@ -19,11 +19,16 @@ fn main() -> ExitCode {
     let files = words.get(1).copied().unwrap_or(FILES);
     let start = Instant::now();
     let mut tally = Tally::default();
-    let mut origins = Origins::default();
+    let (mut origins, mut brushes) = (Origins::default(), Brushes::default());
     let compared = compare_examples(&mut tally)
         .and_then(|()| compare_worked(&mut tally))
         .and_then(|()| compare_variations(&mut tally))
-        .and_then(|()| compare_generated(&mut tally, &mut origins, seed, files))
+        .and_then(|()| {
+            compare_generated(&mut tally, seed, files, |subject| {
+                origins.count(subject);
+                brushes.count(subject);
+            })
+        })
         .and_then(|()| HeaderFaults::compare(&mut Random::new(seed)));
     let faults = match compared {
         Ok(faults) => faults,
@@ -33,8 +38,8 @@ fn main() -> ExitCode {
         }
     };
     println!("seed {seed}, {files} files, no difference, {:.1} s", start.elapsed().as_secs_f64());
-    print!("{}{}{}", tally.text(), origins.text(), faults.text());
-    let rare = [tally.rare(), origins.rare(), faults.rare()].concat();
+    print!("{}{}{}{}", tally.text(), origins.text(), brushes.text(), faults.text());
+    let rare = [tally.rare(), origins.rare(), brushes.rare(), faults.rare()].concat();
     if files >= FILES && !rare.is_empty() {
         println!("a hundred times or less: {}", rare.join(", "));
         return ExitCode::FAILURE;
@@ -67,13 +72,17 @@ fn compare_variations(tally: &mut Tally) -> Result<(), String> {
     variations().try_for_each(|file| compare_file("changed sample", &mut random, &file, tally).map(drop))
 }
 
-/// Each file has a seed of its own, so that it can be had again alone.
-fn compare_generated(tally: &mut Tally, origins: &mut Origins, seed: u64, files: u64) -> Result<(), String> {
+/// Each file has a seed of its own, so that it can be had again alone; it is counted afterwards.
+fn compare_generated(
+    tally: &mut Tally,
+    seed: u64,
+    files: u64,
+    mut count: impl FnMut(&Subject),
+) -> Result<(), String> {
     (0..files).map(|number| seed.wrapping_add(number)).try_for_each(|own| {
         let mut random = Random::new(own);
         let file = generate::file(&mut random);
-        let subject = compare_file(&format!("seed {own}"), &mut random, &file, tally)?;
-        origins.count(&subject);
+        count(&compare_file(&format!("seed {own}"), &mut random, &file, tally)?);
         Ok(())
     })
 }

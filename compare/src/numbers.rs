@@ -12,6 +12,9 @@ pub const NO_BODY: &[usize] = &[25];
 pub const ROWS: &[usize] = &[28, 27, 26];
 pub const START: &[usize] = &[29];
 
+/// What its shape alone is refused for.
+pub const SHAPE: &[usize] = &[44];
+
 /// A table with too few places.
 pub const PLACES: &[usize] = &[13];
 

@@ -91,7 +91,8 @@ pub fn compare() -> Outcome {
     lines().into_iter().try_for_each(compare_line)?;
     diagrams().into_iter().try_for_each(compare_diagram)?;
     compare_packed()?;
-    compare_written()
+    compare_written()?;
+    compare_shapes()
 }
 
 fn compare_line((file, known): Line) -> Outcome {
@@ -149,6 +150,38 @@ fn compare_written() -> Outcome {
         same("read back", florinhado::frame(&out, 0, &mut colours), Ok(0))?;
         same("colours read back", colours, [1, 2, 3])?;
         same("little room", write(&mut out[1..]), Err(Refused { number: 32, place: 0 }))?;
+    }
+    Ok(())
+}
+
+/// The scope's picture with each masking, and a mask row that shows the pixels at the sides: read, and
+/// written to the same rows.
+fn compare_shapes() -> Outcome {
+    let body = [0xa0, 0, 0x60, 0, 0xa0, 0];
+    let lasso = Refused { number: 44, place: 0 };
+    let known = [
+        (0, 2, Ok([1, 1, 1])),
+        (1, 2, Ok([1, 0, 1])),
+        (2, 2, Ok([1, 0, 1])),
+        (2, 4, Ok([1, 1, 1])),
+        (2, 256 + 2, Ok([1, 1, 1])),
+        (3, 2, Err(lasso)),
+    ];
+    for (masking, transparent, shape) in known {
+        let fields = Header { width: 3, height: 1, planes: 2, masking, transparent, ..Header::default() };
+        let (rows, mask) = if masking == 1 { (&body[..], &[1, 0, 1][..]) } else { (&body[..4], &[][..]) };
+        let (mut colours, mut shown) = ([9; 3], [9; 3]);
+        let told = florinhado::body_shape_frame(rows, &fields, &mut colours, &mut shown);
+        same(
+            "worked shape",
+            told.map(|leftover| (leftover, colours, shown)),
+            shape.map(|s| (0, [1, 2, 3], s)),
+        )?;
+        same("after a refusal", told.is_ok() || [colours, shown] == [[9; 3]; 2], true)?;
+        let mut file = [0; 54];
+        let length = florinhado::write_with_shape(&fields, b"", &[1, 2, 3], mask, &mut file);
+        same("written with a shape", length, Ok(48 + rows.len()))?;
+        same("its BODY", &file[48..48 + rows.len()], rows)?;
     }
     Ok(())
 }

@@ -12,7 +12,7 @@ const NAME: &str = "ilbm_write";
 /// One picture of so many is longer than a file may be.
 const OVERSIZE: usize = 40_000;
 
-pub const CALL: Call = Call { name: NAME, numbers: &[&[0, 32, 33, 34, 35]], compare, run };
+pub const CALL: Call = Call { name: NAME, numbers: &[&[0, 32, 33, 34, 35, 45]], compare, run };
 
 /// The file's bytes are written as a picture of 256 colours and 512 pixels a line.
 fn run(file: &[u8]) {
@@ -24,7 +24,8 @@ fn run(file: &[u8]) {
 /// The picture that is written has nothing to do with the file.
 fn compare(_: &Subject, random: &mut Random, tally: &mut Tally) -> Outcome {
     let input = if random.one_in(OVERSIZE) { oversize_writer_input(random) } else { writer_input(random) };
-    let told = |text| format!("{:?}, palette {:?}: {text}", input.fields, input.palette);
+    let told =
+        |text| format!("{:?}, palette {:?}, shape {:?}: {text}", input.fields, input.palette, input.shape);
     tally.add(NAME, written(&input, random).map_err(told)?);
     Ok(())
 }
@@ -64,6 +65,7 @@ fn call(given: &Header, input: &WriterInput, out: &mut [u8], length: &mut usize)
         given.page_height,
         &input.palette,
         &input.frame,
+        &input.shape,
         out,
         length,
     )
@@ -71,12 +73,12 @@ fn call(given: &Header, input: &WriterInput, out: &mut [u8], length: &mut usize)
 
 /// Compares the writing of a picture and gives the answer.
 pub fn written(input: &WriterInput, random: &mut Random) -> Result<usize, String> {
-    let wanted =
-        second::write_picture(&input.fields, &input.palette, &input.frame, input.room).map_err(refused);
+    let WriterInput { fields, palette, frame, shape, room } = input;
+    let wanted = second::write_picture(fields, palette, frame, shape, *room).map_err(refused);
     let result = wanted.as_deref().unwrap_or(&[]);
-    let given = header(&input.fields, random.byte());
+    let given = header(fields, random.byte());
     let [mut length] = numbers(random);
-    let mut buffer = Buffer::new(random, input.room);
+    let mut buffer = Buffer::new(random, *room);
     let answer = call(&given, input, buffer.slice(), &mut length);
     let told = match &wanted {
         Ok(file) => [0, file.len()],
@@ -84,9 +86,15 @@ pub fn written(input: &WriterInput, random: &mut Random) -> Result<usize, String
     };
     same("number, length", [answer, length], told)?;
     buffer.compare(result)?;
-    let mut buffer = Buffer::new(random, input.room);
-    let ours = florinhado::write(&given, &input.palette, &input.frame, buffer.slice());
-    same("write", ours, wanted.as_ref().map(Vec::len).map_err(|refused| *refused))?;
+    let mut buffer = Buffer::new(random, *room);
+    let ours = florinhado::write_with_shape(&given, palette, frame, shape, buffer.slice());
+    same("write_with_shape", ours, wanted.as_ref().map(Vec::len).map_err(|refused| *refused))?;
     buffer.compare(result)?;
+    if shape.is_empty() {
+        let mut buffer = Buffer::new(random, *room);
+        let ours = florinhado::write(&given, palette, frame, buffer.slice());
+        same("write", ours, wanted.as_ref().map(Vec::len).map_err(|refused| *refused))?;
+        buffer.compare(result)?;
+    }
     Ok(answer)
 }

@@ -1,5 +1,6 @@
 //! Pictures that the library writes for other programs to read.
 
+use crate::pbm::Pbm;
 use crate::picture::by_library;
 use florinhado::Header;
 use second::random::Random;
@@ -9,11 +10,19 @@ use std::path::Path;
 /// Widths around the bounds of a byte and of a word, and wider ones.
 const WIDTHS: [u16; 12] = [1, 7, 8, 9, 15, 16, 17, 33, 100, 319, 640, 1999];
 
+/// Those of brushes.
+const NARROW: [u16; 6] = [1, 8, 15, 17, 33, 319];
+
 /// One picture as a file.
 fn written(fields: &Header, palette: &[u8], frame: &[u8]) -> Vec<u8> {
-    let mut file = vec![0; 900 + 2 * frame.len() * usize::from(fields.planes)];
-    let length = florinhado::write(fields, palette, frame, &mut file).expect("a picture that can be written");
-    file.truncate(length);
+    masked(fields, palette, frame, &[])
+}
+
+/// The same with a shape for its mask plane.
+fn masked(fields: &Header, palette: &[u8], frame: &[u8], shape: &[u8]) -> Vec<u8> {
+    let mut file = vec![0; 900 + 4 * frame.len() * usize::from(fields.planes)];
+    let length = florinhado::write_with_shape(fields, palette, frame, shape, &mut file);
+    file.truncate(length.expect("a picture that can be written"));
     file
 }
 
@@ -66,6 +75,39 @@ pub fn pictures(folder: &Path) -> Result<String, String> {
         }
     }
     Ok(format!("{count} pictures written\n"))
+}
+
+/// A picture of some widths and each plane count and compression, with a mask plane and with a transparent
+/// colour, and which of its pixels show.
+pub fn brushes(folder: &Path) -> Result<String, String> {
+    let mut random = Random::new(1985);
+    let mut count = 0;
+    for planes in 1..=8 {
+        for compression in 0..2 {
+            for width in NARROW {
+                for masking in 1..=2 {
+                    let given = Header { masking, transparent: 1, ..fields(width, planes, compression) };
+                    let name = format!("masking{masking}_planes{planes}_{compression}_{width}");
+                    save_brush(folder, &name, &given, &mut random)?;
+                    count += 1;
+                }
+            }
+        }
+    }
+    Ok(format!("{count} brushes written\n"))
+}
+
+fn save_brush(folder: &Path, name: &str, given: &Header, random: &mut Random) -> Result<(), String> {
+    let palette = random.bytes(3 << given.planes);
+    let colours = frame(random, given);
+    let bits = frame(random, &Header { planes: 1, ..*given });
+    let (shape, bits) = match given.masking {
+        1 => (&bits[..], bits.clone()),
+        _ => (&[][..], colours.iter().map(|colour| u8::from(*colour != 1)).collect()),
+    };
+    save(folder, name, &masked(given, &palette, &colours, shape))?;
+    let known = Pbm { width: given.width.into(), bits };
+    fs::write(folder.join(format!("{name}.pbm")), known.bytes()).map_err(|error| error.to_string())
 }
 
 /// The file, and the pixels that the library reads from it.

@@ -1,5 +1,6 @@
 //! A picture as a reader tells it, and its pixels.
 
+use crate::pbm::Pbm;
 use crate::ppm::Ppm;
 
 /// The flags of CAMG for HAM and for half-bright.
@@ -16,6 +17,8 @@ pub struct Picture {
     pub half: bool,
     pub palette: Vec<u8>,
     pub colours: Vec<u8>,
+    /// Which pixels show, or what that is refused with.
+    pub shape: Result<Vec<u8>, usize>,
 }
 
 impl Picture {
@@ -29,6 +32,7 @@ impl Picture {
             half: false,
             palette: Vec::new(),
             colours: Vec::new(),
+            shape: Err(number),
         }
     }
 
@@ -44,6 +48,18 @@ impl Picture {
         }
         let differ = (0..pixels.len()).find(|n| pixels[*n] != shown.pixels[*n]);
         differ.map_or(Ok(()), |n| Err(format!("pixel {}: {} is {}", n / 3, pixels[n], shown.pixels[n])))
+    }
+
+    /// Whether it has the shape that a program was handed, or all pixels show if there is none.
+    pub fn shaped_as(&self, known: Option<&Pbm>) -> Result<(), String> {
+        let all = vec![1; self.colours.len()];
+        let known = known.map_or(&all, |known| &known.bits);
+        match &self.shape {
+            Ok(shape) if shape == known => Ok(()),
+            Err(number) if *number == self.refused => Ok(()),
+            Err(number) => Err(format!("the shape is refused with {number}")),
+            Ok(_) => Err("another shape".to_string()),
+        }
     }
 
     pub fn ppm(&self, pixels: Vec<u8>) -> Ppm {
@@ -109,7 +125,10 @@ pub fn by_library(file: &[u8]) -> Picture {
     let frame = florinhado::frame(file, 0, &mut colours);
     let refused = frame.map_or_else(|refused| refused.number, |_| 0);
     let (ham, half) = (mode & HAM != 0, mode & HALF != 0);
-    Picture { refused, width, height, planes: header.planes, ham, half, palette, colours }
+    let mut shape = vec![0; width * height];
+    let told = florinhado::shape_frame(file, 0, &mut vec![0; width * height], &mut shape);
+    let shape = told.map(|_| shape).map_err(|refused| refused.number);
+    Picture { refused, width, height, planes: header.planes, ham, half, palette, colours, shape }
 }
 
 /// What the second reader tells of it.
@@ -125,5 +144,8 @@ pub fn by_second(file: &[u8]) -> Picture {
     let refused = frame.as_ref().map_or_else(|refused| refused.number as usize, |_| 0);
     let colours = frame.map_or(Vec::new(), |frame| frame.colours);
     let (ham, half) = (mode & HAM != 0, mode & HALF != 0);
-    Picture { refused, width, height, planes: told.header.planes, ham, half, palette, colours }
+    let lent = second::Lent { colours: width * height, shape: width * height };
+    let shape = second::shape_frame(file, 0, lent).map(|frame| frame.shape);
+    let shape = shape.map_err(|refused| refused.number as usize);
+    Picture { refused, width, height, planes: told.header.planes, ham, half, palette, colours, shape }
 }

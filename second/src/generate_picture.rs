@@ -13,17 +13,20 @@ pub(crate) struct Plan {
     planes: u8,
     masking: u8,
     compression: u8,
+    pub transparent: u16,
 }
 
 impl Plan {
     /// A plan that is mostly sound.
     pub fn of(random: &mut Random) -> Plan {
+        let planes = random.between(1, 8) as u8;
         let mut plan = Plan {
             width: width(random),
             height: random.between(1, 4) as u16,
-            planes: random.between(1, 8) as u8,
-            masking: random.pick(&[0, 0, 1, 1, 2, 3]),
+            planes,
+            masking: random.pick(&[0, 1, 1, 2, 2, 3]),
             compression: random.pick(&[0, 1, 1]),
+            transparent: transparent(random, planes),
         };
         if random.one_in(9) {
             plan.spoil(random);
@@ -70,8 +73,18 @@ impl Plan {
         data[0..2].copy_from_slice(&self.width.to_be_bytes());
         data[2..4].copy_from_slice(&self.height.to_be_bytes());
         data[8..11].copy_from_slice(&[self.planes, self.masking, self.compression]);
+        data[12..14].copy_from_slice(&self.transparent.to_be_bytes());
         data
     }
+}
+
+/// A transparent colour for a picture of so many planes: mostly a number that its pixels may have, often
+/// one that most pictures have; at times that with a bit beyond them, or any.
+pub(crate) fn transparent(random: &mut Random, planes: u8) -> u16 {
+    let last = (1 << planes) - 1;
+    let any = random.word() as u16;
+    let own = random.pick(&[0, last, any & last]);
+    random.pick(&[own, own, own, own, own | 1 << planes, own | 256, own | 0x8000, any])
 }
 
 /// A width near a multiple of 8 or 16.

@@ -2,21 +2,22 @@
 
 use crate::answer::Refused;
 use crate::fields::Layout;
-use crate::generate_picture::{body, plane_row, Plan};
+use crate::generate_picture::{body, plane_row, transparent, Plan};
 use crate::listing::count_pictures;
 use crate::pack::{packed, LONGEST_ROW};
 use crate::picture::properties;
 use crate::random::Random;
 use crate::rows::{body_line, scan_line, ScanLine};
+use crate::shape::Lent;
 use crate::write::{write_picture, Fields};
 
-/// What is asked of a picture.
+/// What is asked of a picture, with the lengths of a row and of a frame; a shape is asked for or not.
 #[derive(Clone, Copy, Debug)]
 pub struct Query {
     pub picture: usize,
     pub start: usize,
-    pub row_length: usize,
-    pub frame_length: usize,
+    pub row: Lent,
+    pub frame: Lent,
 }
 
 /// Bytes as a BODY, the fields that they are read by, and what is asked of them.
@@ -24,10 +25,11 @@ pub struct Query {
 pub struct BodyInput {
     pub body: Vec<u8>,
     pub layout: Layout,
+    pub transparent: u16,
     pub height: u16,
     pub start: usize,
-    pub row_length: usize,
-    pub frame_length: usize,
+    pub row: Lent,
+    pub frame: Lent,
 }
 
 /// A row for the packer with the length of the buffer.
@@ -43,6 +45,7 @@ pub struct WriterInput {
     pub fields: Fields,
     pub palette: Vec<u8>,
     pub frame: Vec<u8>,
+    pub shape: Vec<u8>,
     pub room: usize,
 }
 
@@ -52,7 +55,8 @@ pub fn query(random: &mut Random, file: &[u8]) -> Query {
     let beyond = usize::from(random.one_in(20));
     let picture = random.below(pictures.max(1)) + beyond * pictures;
     let Ok(told) = properties(file, picture) else {
-        return Query { picture, start: 0, row_length: 1, frame_length: 1 };
+        let one = Lent { colours: 1, shape: 1 };
+        return Query { picture, start: 0, row: one, frame: one };
     };
     let width = usize::from(told.header.width);
     let frame = width * usize::from(told.header.height);
@@ -60,8 +64,8 @@ pub fn query(random: &mut Random, file: &[u8]) -> Query {
     Query {
         picture,
         start: start_place(random, body, |start| scan_line(file, picture, start, width)),
-        row_length: nearly(random, width),
-        frame_length: nearly(random, frame),
+        row: lent(random, width),
+        frame: lent(random, frame),
     }
 }
 
@@ -91,9 +95,10 @@ pub fn body_input(random: &mut Random) -> BodyInput {
     let width = usize::from(layout.width);
     BodyInput {
         start: start_place(random, body.len(), |start| body_line(&body, &layout, start, width)),
-        row_length: nearly(random, width),
-        frame_length: nearly(random, width * usize::from(plan.height)),
+        row: lent(random, width),
+        frame: lent(random, width * usize::from(plan.height)),
         height: plan.height,
+        transparent: plan.transparent,
         layout,
         body,
     }
@@ -108,6 +113,11 @@ pub fn header_input(random: &mut Random) -> Vec<u8> {
         data.resize(size, random.byte());
     }
     data
+}
+
+/// So many bytes each, mostly; one length may be wrong without the other.
+fn lent(random: &mut Random, pixels: usize) -> Lent {
+    Lent { colours: nearly(random, pixels), shape: nearly(random, pixels) }
 }
 
 fn nearly(random: &mut Random, number: usize) -> usize {
@@ -142,7 +152,7 @@ fn room(random: &mut Random, exact: usize) -> usize {
     }
 }
 
-/// A picture to write; a quarter or so are refused.
+/// A picture to write; a third or so are refused.
 pub fn writer_input(random: &mut Random) -> WriterInput {
     let mut fields = writer_fields(random);
     let colours = random.between(0, 40) * 3;
@@ -150,21 +160,27 @@ pub fn writer_input(random: &mut Random) -> WriterInput {
     let pixels = usize::from(fields.width) * usize::from(fields.height);
     let mask = ((1u16 << fields.planes) - 1) as u8;
     let mut frame: Vec<u8> = plane_row(random, pixels).iter().map(|byte| byte & mask).collect();
+    let shown = if fields.masking == 1 { pixels } else { 0 };
+    let mut shape: Vec<u8> = plane_row(random, shown).iter().map(|byte| byte & 1).collect();
     spoil(random, &mut fields, &mut palette, &mut frame);
-    let exact = write_picture(&fields, &palette, &frame, usize::MAX).map_or(100, |file| file.len());
-    WriterInput { fields, palette, frame, room: room(random, exact) }
+    if random.one_in(8) {
+        spoil_shape(random, pixels, &mut shape);
+    }
+    let exact = write_picture(&fields, &palette, &frame, &shape, usize::MAX).map_or(100, |file| file.len());
+    WriterInput { fields, palette, frame, shape, room: room(random, exact) }
 }
 
 fn writer_fields(random: &mut Random) -> Fields {
+    let planes = random.between(1, 8) as u8;
     Fields {
         width: random.between(1, 70) as u16,
         height: random.between(1, 6) as u16,
         x: random.word() as i16,
         y: random.word() as i16,
-        planes: random.between(1, 8) as u8,
-        masking: random.pick(&[0, 2, 3]),
+        planes,
+        masking: random.pick(&[0, 1, 1, 1, 2, 3]),
         compression: random.below(2) as u8,
-        transparent_color: random.word() as u16,
+        transparent_color: transparent(random, planes),
         x_aspect: random.byte(),
         y_aspect: random.byte(),
         page_width: random.word() as i16,
@@ -178,14 +194,30 @@ fn spoil(random: &mut Random, fields: &mut Fields, palette: &mut Vec<u8>, frame:
         0 => fields.width = random.pick(&[0, fields.width + 1]),
         1 => fields.height = random.pick(&[0, fields.height - 1]),
         2 => fields.planes = random.pick(&[0, 9, 255]),
-        3 => fields.masking = random.pick(&[1, 4, 255]),
+        3 => fields.masking = random.pick(&[4, 5, 255]),
         4 => fields.compression = random.pick(&[2, 255]),
         5 => palette.push(0),
         6 => palette.resize(random.pick(&[768, 769, 770, 771]), 7),
         7 => frame.push(0),
         8 | 9 => fields.planes = random.between(1, usize::from(fields.planes)) as u8,
         10 => frame[0] = 255,
+        11 => fields.masking = random.below(4) as u8,
         _ => {}
+    }
+}
+
+/// A byte over 1, or another length: one more or less, none, one byte a pixel.
+fn spoil_shape(random: &mut Random, pixels: usize, shape: &mut Vec<u8>) {
+    match random.below(8) {
+        0 => shape.push(random.pick(&[0, 1, 2])),
+        1 => drop(shape.pop()),
+        2 => shape.clear(),
+        3 => shape.resize(pixels, 1),
+        _ if shape.is_empty() => shape.resize(random.between(1, pixels + 1), 0),
+        _ => {
+            let place = random.below(shape.len());
+            shape[place] = random.pick(&[2, 3, 128, 129, 254, 255]);
+        }
     }
 }
 
@@ -195,5 +227,6 @@ pub fn oversize_writer_input(random: &mut Random) -> WriterInput {
     (fields.width, fields.height) = (4096, 4096);
     (fields.planes, fields.compression) = (8, 0);
     let frame = vec![random.byte(); 4096 * 4096];
-    WriterInput { fields, palette: Vec::new(), frame, room: random.pick(&[0, 17_000_000]) }
+    let shape = vec![random.byte() & 1; if fields.masking == 1 { frame.len() } else { 0 }];
+    WriterInput { fields, palette: Vec::new(), frame, shape, room: random.pick(&[0, 17_000_000]) }
 }

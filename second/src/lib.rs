@@ -24,6 +24,7 @@ mod picture;
 mod picture_table;
 pub mod random;
 mod rows;
+mod shape;
 mod tree;
 mod write;
 
@@ -38,5 +39,6 @@ pub use picture::{
 };
 pub use picture_table::{fill_pictures, picture_rows, PictureRow};
 pub use rows::{body_frame, body_line, frame, scan_line, Frame, ScanLine};
+pub use shape::{body_shape_frame, body_shape_line, shape_frame, shape_line, Lent, Shaped};
 pub use tree::{check, Chunk, Kind, Tree, LONGEST_FILE};
 pub use write::{write_picture, Fields};

@@ -4,6 +4,7 @@
 use second::random::Random;
 use second::{
     check, clean_copy, count_pictures, frame, generate, listing_text, palette, properties, scan_line,
+    shape_frame, Lent,
 };
 use std::io::{Read, Write};
 
@@ -62,7 +63,9 @@ fn picture_answers(file: &[u8], picture: usize) -> String {
         text += &format!("line {y} next {place} sum {:016x}\n", sum(&line.colours));
     }
     let whole = frame(file, picture, width * height);
-    text + &format!("frame {:?}\n", whole.map(|whole| (sum(&whole.colours), whole.leftover)))
+    text += &format!("frame {:?}\n", whole.map(|whole| (sum(&whole.colours), whole.leftover)));
+    let shaped = shape_frame(file, picture, Lent { colours: width * height, shape: width * height });
+    text + &format!("shape {:?}\n", shaped.map(|shaped| sum(&shaped.shape)))
 }
 
 /// A 64-bit checksum (FNV-1a).

@@ -4,6 +4,13 @@ use crate::answer::Refused;
 use crate::fields::{Header, Layout};
 use crate::picture::{faults, properties};
 
+/// The rows of one scan line, read: its colour numbers, its mask row if it has one, and the place after them.
+pub(crate) struct Decoded {
+    pub colours: Vec<u8>,
+    pub mask: Option<Vec<u8>>,
+    pub next: usize,
+}
+
 /// The colour numbers of one scan line and the place in the BODY after it.
 #[derive(Clone, Debug, PartialEq, Eq)]
 pub struct ScanLine {
@@ -32,19 +39,17 @@ pub fn frame(file: &[u8], picture: usize, frame_length: usize) -> Result<Frame, 
 
 /// The scan line at `start` of any bytes as a BODY: 41, 42, 43, 24, then 29, 28, 27, 26.
 pub fn body_line(body: &[u8], layout: &Layout, start: usize, row_length: usize) -> Result<ScanLine, Refused> {
-    sound(layout, layout.width == 0 || layout.planes == 0)?;
-    if start > body.len() {
-        return Err(Refused::plain(29));
-    }
+    startable(body, layout, start)?;
     if row_length != usize::from(layout.width) {
         return Err(Refused::plain(28));
     }
-    decode_line(layout, body, start)
+    let Decoded { colours, next, .. } = decode_line(layout, body, start)?;
+    Ok(ScanLine { colours, next })
 }
 
 /// So many scan lines of any bytes as a BODY: 41, 42, 43, 24, then 28, 27, 26.
 pub fn body_frame(body: &[u8], layout: &Layout, height: u16, frame_length: usize) -> Result<Frame, Refused> {
-    sound(layout, layout.width == 0 || layout.planes == 0 || height == 0)?;
+    showable(layout, height)?;
     if frame_length != usize::from(layout.width) * usize::from(height) {
         return Err(Refused::plain(28));
     }
@@ -58,13 +63,27 @@ pub fn body_frame(body: &[u8], layout: &Layout, height: u16, frame_length: usize
     Ok(Frame { colours, leftover: body.len() - place })
 }
 
+/// A line can be asked for: 41, 42, 43, 24, 29.
+pub(crate) fn startable(body: &[u8], layout: &Layout, start: usize) -> Result<(), Refused> {
+    sound(layout, layout.width == 0 || layout.planes == 0)?;
+    if start > body.len() {
+        return Err(Refused::plain(29));
+    }
+    Ok(())
+}
+
+/// So many lines can be asked for: 41, 42, 43, 24.
+pub(crate) fn showable(layout: &Layout, height: u16) -> Result<(), Refused> {
+    sound(layout, layout.width == 0 || layout.planes == 0 || height == 0)
+}
+
 /// Refuses by the first fault of the fields.
 fn sound(layout: &Layout, empty: bool) -> Result<(), Refused> {
     faults(layout, empty).first().map_or(Ok(()), |number| Err(Refused::plain(*number)))
 }
 
 /// The header and BODY of a picture, or the first of 1 to 12 and 20 to 25.
-fn picture_body(file: &[u8], picture: usize) -> Result<(Header, &[u8]), Refused> {
+pub(crate) fn picture_body(file: &[u8], picture: usize) -> Result<(Header, &[u8]), Refused> {
     let found = properties(file, picture)?;
     let range = found.body.ok_or(Refused::plain(25))?;
     Ok((found.header, &file[range]))
@@ -75,20 +94,22 @@ pub(crate) fn row_bytes(width: u16) -> usize {
     usize::from(width).div_ceil(16) * 2
 }
 
-fn decode_line(layout: &Layout, body: &[u8], start: usize) -> Result<ScanLine, Refused> {
+pub(crate) fn decode_line(layout: &Layout, body: &[u8], start: usize) -> Result<Decoded, Refused> {
     let mut colours = vec![0; usize::from(layout.width)];
     let mut next = start;
     for plane in 0..layout.planes {
         let row = plane_row(layout, body, &mut next)?;
         for (x, colour) in colours.iter_mut().enumerate() {
-            let bit = row[x / 8] >> (7 - x % 8) & 1;
-            *colour |= bit << plane;
+            *colour |= bit(&row, x) << plane;
         }
     }
-    if layout.masking == 1 {
-        plane_row(layout, body, &mut next)?;
-    }
-    Ok(ScanLine { colours, next })
+    let mask = if layout.masking == 1 { Some(plane_row(layout, body, &mut next)?) } else { None };
+    Ok(Decoded { colours, mask, next })
+}
+
+/// What a plane row has for pixel `x`.
+pub(crate) fn bit(row: &[u8], x: usize) -> u8 {
+    row[x / 8] >> (7 - x % 8) & 1
 }
 
 /// Reads one plane row at `place` and moves `place` behind it.

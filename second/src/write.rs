@@ -1,4 +1,4 @@
-//! The writer for one ILBM picture: refusals 33, 34, 35, 32.
+//! The writer for one ILBM picture: refusals 33, 34, 45, 35, 32.
 
 use crate::answer::Refused;
 use crate::name::Name;
@@ -23,20 +23,30 @@ pub struct Fields {
     pub page_height: i16,
 }
 
-/// The file with one picture, for a buffer of `room` bytes.
-pub fn write_picture(fields: &Fields, palette: &[u8], frame: &[u8], room: usize) -> Result<Vec<u8>, Refused> {
+/// The file with one picture, for a buffer of `room` bytes. With masking 1 the shape has a byte for each
+/// pixel, else none.
+pub fn write_picture(
+    fields: &Fields,
+    palette: &[u8],
+    frame: &[u8],
+    shape: &[u8],
+    room: usize,
+) -> Result<Vec<u8>, Refused> {
     if !fields_allowed(fields, palette, frame) {
         return Err(Refused::plain(33));
     }
     if frame.iter().any(|colour| u32::from(*colour) >> fields.planes != 0) {
         return Err(Refused::plain(34));
     }
+    if !shape_allowed(fields, frame, shape) {
+        return Err(Refused::plain(45));
+    }
     let mut members = b"ILBM".to_vec();
     put_chunk(&mut members, Name::BMHD, &header_data(fields));
     if !palette.is_empty() {
         put_chunk(&mut members, Name::CMAP, palette);
     }
-    put_chunk(&mut members, Name::BODY, &body_data(fields, frame));
+    put_chunk(&mut members, Name::BODY, &body_data(fields, frame, shape));
     let mut file = Vec::new();
     put_chunk(&mut file, Name::FORM, &members);
     if file.len() > LONGEST_FILE {
@@ -52,12 +62,18 @@ fn fields_allowed(fields: &Fields, palette: &[u8], frame: &[u8]) -> bool {
     fields.width > 0
         && fields.height > 0
         && (1..=8).contains(&fields.planes)
-        && fields.masking != 1
         && fields.masking <= 3
         && fields.compression <= 1
         && palette.len().is_multiple_of(3)
         && palette.len() <= 768
         && frame.len() == usize::from(fields.width) * usize::from(fields.height)
+}
+
+/// "45 after 34 for a shape with a byte over 1 or of a length other than w times h for masking 1 and 0
+/// for the rest"; the frame has w times h.
+fn shape_allowed(fields: &Fields, frame: &[u8], shape: &[u8]) -> bool {
+    let length = if fields.masking == 1 { frame.len() } else { 0 };
+    shape.len() == length && shape.iter().all(|byte| *byte <= 1)
 }
 
 fn put_chunk(out: &mut Vec<u8>, name: Name, data: &[u8]) {
@@ -84,12 +100,15 @@ fn header_data(fields: &Fields) -> Vec<u8> {
     data
 }
 
-/// All plane rows of the frame, packed one by one if so asked.
-fn body_data(fields: &Fields, frame: &[u8]) -> Vec<u8> {
+/// All plane rows of the frame, each line's mask row after them, packed one by one if so asked.
+fn body_data(fields: &Fields, frame: &[u8], shape: &[u8]) -> Vec<u8> {
+    let width = usize::from(fields.width);
+    let mut masks = shape.chunks(width);
     let mut data = Vec::new();
-    for line in frame.chunks(usize::from(fields.width)) {
-        for plane in 0..fields.planes {
-            let row = plane_row(line, plane, row_bytes(fields.width));
+    for line in frame.chunks(width) {
+        let planes = (0..fields.planes).map(|plane| plane_row(line, plane, row_bytes(fields.width)));
+        let mask = masks.next().map(|mask| plane_row(mask, 0, row_bytes(fields.width)));
+        for row in planes.chain(mask) {
             if fields.compression == 1 {
                 data.extend(packed(&row));
             } else {
@@ -100,7 +119,7 @@ fn body_data(fields: &Fields, frame: &[u8]) -> Vec<u8> {
     data
 }
 
-/// One plane of a line of colour numbers, with zero bits after the last pixel.
+/// One plane of a line of colour numbers or of its shape, with zero bits after the last pixel.
 fn plane_row(line: &[u8], plane: u8, length: usize) -> Vec<u8> {
     let mut row = vec![0; length];
     for (x, colour) in line.iter().enumerate() {

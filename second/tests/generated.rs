@@ -2,9 +2,10 @@
 
 use second::generate::{self, Query};
 use second::random::Random;
-use second::{body_frame, body_line, count_pictures, header_fields, picture_rows};
+use second::{body_frame, body_line, body_shape_frame, body_shape_line, count_pictures, header_fields};
 use second::{check, clean_copy, data, fill_table, frame, listing_text, pack, palette, properties};
-use second::{record, records, scan_line, write_picture, Frame, Kind, Origin, Refused};
+use second::{picture_rows, record, records, scan_line, shape_frame, shape_line, write_picture};
+use second::{Frame, Kind, Lent, Origin, Refused};
 use std::collections::BTreeMap;
 
 /// A number from the environment, or the usual one.
@@ -115,18 +116,26 @@ fn clean_copies_are_accepted() {
 
 #[test]
 fn picture_numbers() {
-    let mut tally = Tally::default();
+    let (mut tally, mut shapes) = (Tally::default(), Tally::default());
     for_files(|file, random| {
-        let Query { picture, start, row_length, frame_length } = generate::query(random, file);
+        let Query { picture, start, row, frame: lent } = generate::query(random, file);
         let told = properties(file, picture);
         assert_eq!(palette(file, picture, b"rgb").err(), told.as_ref().err().copied());
         tally.add(&told);
-        let line = scan_line(file, picture, start, row_length);
+        let line = scan_line(file, picture, start, row.colours);
         tally.add(&line);
-        assert!(line.is_err() || line.unwrap().colours.len() == row_length);
-        tally.add(&frame(file, picture, frame_length));
+        let shaped = shape_line(file, picture, start, row);
+        shapes.add(&shaped);
+        assert!(shaped.is_err() || Ok(shaped.unwrap().pixels) == line);
+        assert!(line.is_err() || line.unwrap().colours.len() == row.colours);
+        let whole = frame(file, picture, lent.colours);
+        tally.add(&whole);
+        let shaped = shape_frame(file, picture, lent);
+        shapes.add(&shaped);
+        assert!(shaped.is_err() || Ok(shaped.unwrap().pixels) == whole);
     });
     tally.needs([0].into_iter().chain(20..=29).chain(41..=43));
+    shapes.needs([0].into_iter().chain(20..=29).chain(41..=44));
 }
 
 /// The table has an answer for each picture, and with the BODY what the calls by number give.
@@ -157,15 +166,51 @@ fn tables_agree() {
 fn body_numbers() {
     let mut random = Random::new(seed());
     let (mut lines, mut frames, mut headers) = (Tally::default(), Tally::default(), Tally::default());
+    let (mut shape_lines, mut shape_frames) = (Tally::default(), Tally::default());
     for _ in 0..files() {
         let input = generate::body_input(&mut random);
-        lines.add(&body_line(&input.body, &input.layout, input.start, input.row_length));
-        frames.add(&body_frame(&input.body, &input.layout, input.height, input.frame_length));
+        let generate::BodyInput { body, layout, transparent, height, start, row, frame } = &input;
+        lines.add(&body_line(body, layout, *start, row.colours));
+        frames.add(&body_frame(body, layout, *height, frame.colours));
+        shape_lines.add(&body_shape_line(body, layout, *transparent, *start, *row));
+        shape_frames.add(&body_shape_frame(body, layout, *transparent, *height, *frame));
         headers.add(&header_fields(&generate::header_input(&mut random)));
     }
     lines.needs([0, 24, 26, 27, 28, 29, 41, 42, 43]);
     frames.needs([0, 24, 26, 27, 28, 41, 42, 43]);
+    shape_lines.needs([0, 24, 26, 27, 28, 29, 41, 42, 43, 44]);
+    shape_frames.needs([0, 24, 26, 27, 28, 41, 42, 43, 44]);
     headers.needs([0, 23]);
+}
+
+/// A frame's shape is that of its scan lines in turn, and every case of it is met.
+#[test]
+fn shapes_are_varied() {
+    let mut met = BTreeMap::<_, usize>::new();
+    for_files(|file, random| {
+        let picture = generate::query(random, file).picture;
+        let Ok(header) = properties(file, picture).map(|told| told.header) else { return };
+        let (width, height) = (usize::from(header.width), usize::from(header.height));
+        let lent = |pixels| Lent { colours: pixels, shape: pixels };
+        let Ok(whole) = shape_frame(file, picture, lent(width * height)) else { return };
+        let mut place = 0;
+        for shape in whole.shape.chunks(width) {
+            let line = shape_line(file, picture, place, lent(width)).unwrap();
+            assert_eq!(line.shape, shape);
+            place = line.pixels.next;
+        }
+        let over = header.masking == 2 && header.transparent_color > 255;
+        let (hidden, shown) = (whole.shape.contains(&0), whole.shape.contains(&1));
+        assert!(!hidden || header.masking == 1 || header.masking == 2 && !over);
+        *met.entry((header.masking, over, hidden, shown)).or_default() += 1;
+    });
+    println!("seed {}: masking, over 255, hidden, shown: {met:?}", seed());
+    let often = |case| met.get(&case).copied().unwrap_or(0) > files() / 100;
+    let cases = [(0, false, false, true), (1, false, true, true), (2, false, true, true)];
+    assert!(cases.into_iter().all(often), "hidden and shown");
+    assert!(often((2, false, false, true)) && often((2, true, false, true)), "a colour that isn't there");
+    let rare = [(1, false, false, true), (1, false, true, false), (2, false, true, false)];
+    assert!(rare.iter().all(|case| met.contains_key(case)), "all hidden, all shown");
 }
 
 /// A frame is its scan lines in turn.
@@ -231,7 +276,7 @@ fn written_pictures_read_back() {
     let mut tally = Tally::default();
     for _ in 0..files() {
         let input = generate::writer_input(&mut random);
-        let answer = write_picture(&input.fields, &input.palette, &input.frame, input.room);
+        let answer = write_picture(&input.fields, &input.palette, &input.frame, &input.shape, input.room);
         tally.add(&answer);
         let Ok(file) = answer else { continue };
         assert_eq!(check(&file).unwrap().end, file.len());
@@ -251,10 +296,14 @@ fn written_pictures_read_back() {
         assert_eq!(palette(&file, 0, b""), Ok(&input.palette[..]));
         let read = frame(&file, 0, input.frame.len()).unwrap();
         assert_eq!((read.colours, read.leftover), (input.frame, 0));
+        if given.masking == 1 {
+            let lent = Lent { colours: input.shape.len(), shape: input.shape.len() };
+            assert_eq!(shape_frame(&file, 0, lent).unwrap().shape, input.shape);
+        }
     }
     let huge = generate::oversize_writer_input(&mut random);
-    tally.add(&write_picture(&huge.fields, &huge.palette, &huge.frame, huge.room));
-    tally.needs([0, 32, 33, 34, 35]);
+    tally.add(&write_picture(&huge.fields, &huge.palette, &huge.frame, &huge.shape, huge.room));
+    tally.needs([0, 32, 33, 34, 35, 45]);
 }
 
 #[test]

@@ -1,9 +1,9 @@
-//! The packer and the picture writer: examples and refusals 31 to 35.
+//! The packer and the picture writer: examples and refusals 31 to 35 and 45.
 
 mod common;
 
 use common::refused;
-use second::{check, frame, pack, palette, properties, write_picture, Fields};
+use second::{check, frame, pack, palette, properties, shape_frame, write_picture, Fields, Lent};
 
 fn packed(row: &[u8]) -> Vec<u8> {
     let out = pack(row, 20_000).unwrap();
@@ -60,14 +60,14 @@ fn packer_refusals() {
 #[test]
 fn lengths_of_the_scope() {
     let colours = [1, 2, 3];
-    assert_eq!(write_picture(&fields(3, 1, 2, 0, 0), b"", &colours, 52).unwrap().len(), 52);
-    assert_eq!(write_picture(&fields(3, 1, 2, 0, 1), b"", &colours, 54).unwrap().len(), 54);
-    assert_eq!(write_picture(&fields(3, 1, 2, 0, 1), b"", &colours, 53), refused(32, 0));
+    assert_eq!(write_picture(&fields(3, 1, 2, 0, 0), b"", &colours, b"", 52).unwrap().len(), 52);
+    assert_eq!(write_picture(&fields(3, 1, 2, 0, 1), b"", &colours, b"", 54).unwrap().len(), 54);
+    assert_eq!(write_picture(&fields(3, 1, 2, 0, 1), b"", &colours, b"", 53), refused(32, 0));
 }
 
 #[test]
 fn written_bytes() {
-    let file = write_picture(&fields(3, 1, 2, 2, 1), &[1, 2, 3], &[1, 2, 3], 100).unwrap();
+    let file = write_picture(&fields(3, 1, 2, 2, 1), &[1, 2, 3], &[1, 2, 3], b"", 100).unwrap();
     let mut expected = b"FORM\0\0\0\x3aILBMBMHD\0\0\0\x14".to_vec();
     expected.extend([0, 3, 0, 1, 0xff, 0xfd, 0, 4, 2, 2, 1, 0, 0xff, 0xfe, 10, 11, 0xfe, 0xc0, 0, 200]);
     expected.extend(b"CMAP\0\0\0\x03\x01\x02\x03\0BODY\0\0\0\x06\x01\xa0\0\x01\x60\0");
@@ -77,12 +77,12 @@ fn written_bytes() {
 #[test]
 fn writer_refusals_stand_in_order() {
     let write = |fields: Fields, palette: usize, frame: &[u8]| {
-        write_picture(&fields, &vec![0; palette], frame, 0).unwrap_err().number
+        write_picture(&fields, &vec![0; palette], frame, &[2], 0).unwrap_err().number
     };
     for bad in [fields(0, 1, 1, 0, 0), fields(1, 0, 1, 0, 0)] {
         assert_eq!(write(bad, 0, &[]), 33);
     }
-    let bad = [(0, 0, 0), (9, 0, 0), (1, 1, 0), (1, 4, 0), (1, 0, 2)];
+    let bad = [(0, 0, 0), (9, 0, 0), (1, 4, 0), (1, 255, 0), (1, 0, 2)];
     for (planes, masking, compression) in bad {
         assert_eq!(write(fields(1, 1, planes, masking, compression), 0, &[9]), 33);
     }
@@ -90,10 +90,50 @@ fn writer_refusals_stand_in_order() {
     assert_eq!(write(fields(1, 1, 1, 0, 0), 771, &[9]), 33);
     assert_eq!(write(fields(1, 1, 1, 0, 0), 768, &[9, 9]), 33);
     assert_eq!(write(fields(1, 1, 1, 0, 0), 768, &[2]), 34);
-    assert_eq!(write(fields(1, 1, 8, 0, 0), 768, &[255]), 32);
+    assert_eq!(write(fields(1, 1, 8, 0, 0), 768, &[255]), 45);
     let huge = vec![255; 4096 * 4096];
-    assert_eq!(write(fields(4096, 4096, 8, 0, 0), 0, &huge), 35);
+    assert_eq!(write(fields(4096, 4096, 8, 0, 0), 0, &huge), 45);
     assert_eq!(write(fields(4096, 4096, 7, 0, 0), 0, &huge), 34);
+    let opaque = fields(4096, 4096, 8, 0, 0);
+    assert_eq!(write_picture(&opaque, b"", &huge, b"", 0), refused(35, 0));
+    assert_eq!(write_picture(&fields(1, 1, 8, 0, 0), &[0; 768], &[255], b"", 0), refused(32, 0));
+}
+
+/// "45 after 34 for a shape with a byte over 1 or of a length other than w times h for masking 1 and 0 for
+/// the rest".
+#[test]
+fn shapes_that_are_not_written() {
+    let write = |masking, shape: &[u8]| {
+        let told = write_picture(&fields(3, 1, 2, masking, 0), b"", &[1, 2, 3], shape, 0);
+        told.unwrap_err().number
+    };
+    for (masking, shape, wanted) in [
+        (1, &[0, 1, 0][..], 32),
+        (1, &[0, 1], 45),
+        (1, &[], 45),
+        (1, &[0, 1, 0, 1], 45),
+        (1, &[0, 1, 2], 45),
+        (1, &[255, 1, 0], 45),
+        (0, &[1, 1, 1], 45),
+        (2, &[0], 45),
+        (3, &[1], 45),
+        (3, &[], 32),
+    ] {
+        assert_eq!(write(masking, shape), wanted, "masking {masking}, {shape:?}");
+    }
+}
+
+/// The mask row stands behind the plane rows of each line, packed as they are.
+#[test]
+fn written_mask() {
+    for (compression, body) in [
+        (0, &b"BODY\0\0\0\x0c\xa0\0\x60\0\xc0\0\0\0\0\0\x20\0"[..]),
+        (1, b"BODY\0\0\0\x12\x01\xa0\0\x01\x60\0\x01\xc0\0\x01\0\0\x01\0\0\x01\x20\0"),
+    ] {
+        let given = fields(3, 2, 2, 1, compression);
+        let file = write_picture(&given, b"", &[1, 2, 3, 0, 0, 0], &[1, 1, 0, 0, 0, 1], 99).unwrap();
+        assert_eq!((&file[40..], file[29]), (body, 1));
+    }
 }
 
 /// 8 planes of 41,941 rows of 50 bytes and 253 colours fill a file exactly.
@@ -101,7 +141,7 @@ fn writer_refusals_stand_in_order() {
 fn longest_result() {
     let given = fields(385, 41_941, 8, 0, 0);
     let colours = vec![0; 385 * 41_941];
-    let written = |palette: usize, room| write_picture(&given, &vec![0; palette], &colours, room);
+    let written = |palette: usize, room| write_picture(&given, &vec![0; palette], &colours, b"", room);
     let longest = written(3 * 253, 16_777_216).unwrap();
     assert_eq!((longest.len(), check(&longest).unwrap().chunks), (16_777_216, 4));
     assert_eq!(written(3 * 253, 16_777_215), refused(32, 0));
@@ -115,15 +155,21 @@ fn written_pictures_read_back() {
             let planes = (width % 8 + 1) as u8;
             let mask = (1u16 << planes) - 1;
             let colours: Vec<u8> = (0..width * 3).map(|n| ((n * n / 5) & mask) as u8).collect();
-            let given = fields(width, 3, planes, width as u8 % 2 * 2, compression);
+            let given = fields(width, 3, planes, width as u8 % 3, compression);
+            let shown: Vec<u8> = (0..width * 3).map(|n| u8::from(n % 7 < 3)).collect();
+            let shape = if given.masking == 1 { &shown[..] } else { &[] };
             let map = vec![5; usize::from(width) * 3];
-            let file = write_picture(&given, &map, &colours, 1 << 20).unwrap();
+            let file = write_picture(&given, &map, &colours, shape, 1 << 20).unwrap();
             assert_eq!(check(&file).unwrap().end, file.len());
             let header = properties(&file, 0).unwrap().header;
             assert_eq!((header.width, header.x, header.pad1), (given.width, given.x, 0));
             assert_eq!(palette(&file, 0, b""), Ok(&map[..]));
             let read = frame(&file, 0, colours.len()).unwrap();
-            assert_eq!((read.colours, read.leftover), (colours, 0));
+            assert_eq!((&read.colours, read.leftover), (&colours, 0));
+            let lent = Lent { colours: colours.len(), shape: colours.len() };
+            let whole = shape_frame(&file, 0, lent).unwrap();
+            assert_eq!(whole.pixels, read);
+            assert_eq!(whole.shape, if given.masking == 1 { shown } else { vec![1; colours.len()] });
         }
     }
 }

@@ -40,7 +40,7 @@ impl Refused {
             25 => "rows asked and no BODY",
             26 => "the BODY ends before the row is full",
             27 => "a copy or repeat oversteps its row",
-            28 => "row or frame of a wrong length",
+            28 => "row, frame or shape of a wrong length",
             29 => "start place beyond the BODY's end",
             31 => "a row to pack has 1 to 8,192 bytes",
             32 => "result longer than the buffer",
@@ -51,6 +51,8 @@ impl Refused {
             41 => "nPlanes 9 or more: at most 8 planes are known",
             42 => "masking 4 or more: only 0 to 3 are known",
             43 => "compression 2 or more: only 0 and 1 are known",
+            44 => "masking 3, a lasso: its shape is not worked out",
+            45 => "a shape with a byte over 1 or of a wrong length",
             _ => "unknown number",
         }
     }

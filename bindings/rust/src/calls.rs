@@ -169,6 +169,31 @@ mod exported {
             leftover: &mut usize,
         ) -> usize;
 
+        pub fn ilbm_shape_line(
+            file: *const u8,
+            file_length: usize,
+            picture: usize,
+            start: usize,
+            row: *mut u8,
+            row_length: usize,
+            shape: *mut u8,
+            shape_length: usize,
+            place: &mut usize,
+            next: &mut usize,
+        ) -> usize;
+
+        pub fn ilbm_shape_frame(
+            file: *const u8,
+            file_length: usize,
+            picture: usize,
+            frame: *mut u8,
+            frame_length: usize,
+            shape: *mut u8,
+            shape_length: usize,
+            place: &mut usize,
+            leftover: &mut usize,
+        ) -> usize;
+
         pub fn ilbm_pictures(
             file: *const u8,
             file_length: usize,
@@ -224,6 +249,40 @@ mod exported {
             leftover: &mut usize,
         ) -> usize;
 
+        pub fn ilbm_body_shape_line(
+            body: *const u8,
+            body_length: usize,
+            w: u16,
+            planes: u8,
+            masking: u8,
+            compression: u8,
+            transparent: u16,
+            start: usize,
+            row: *mut u8,
+            row_length: usize,
+            shape: *mut u8,
+            shape_length: usize,
+            place: &mut usize,
+            next: &mut usize,
+        ) -> usize;
+
+        pub fn ilbm_body_shape_frame(
+            body: *const u8,
+            body_length: usize,
+            w: u16,
+            h: u16,
+            planes: u8,
+            masking: u8,
+            compression: u8,
+            transparent: u16,
+            frame: *mut u8,
+            frame_length: usize,
+            shape: *mut u8,
+            shape_length: usize,
+            place: &mut usize,
+            leftover: &mut usize,
+        ) -> usize;
+
         pub fn byterun_pack(
             row: *const u8,
             row_length: usize,
@@ -249,6 +308,8 @@ mod exported {
             palette_length: usize,
             frame: *const u8,
             frame_length: usize,
+            shape: *const u8,
+            shape_length: usize,
             out: *mut u8,
             out_length: usize,
             length: &mut usize,
@@ -519,6 +580,59 @@ pub fn ilbm_frame(
     }
 }
 
+/// Writes the colour numbers of a scan line from a place of the BODY, and its
+/// shape, 1 for a pixel that shows and 0 for one that doesn't: 0, or a number of
+/// a picture or of its rows.
+pub fn ilbm_shape_line(
+    file: &[u8],
+    picture: usize,
+    start: usize,
+    row: &mut [u8],
+    shape: &mut [u8],
+    place: &mut usize,
+    next: &mut usize,
+) -> usize {
+    unsafe {
+        exported::ilbm_shape_line(
+            file.as_ptr(),
+            file.len(),
+            picture,
+            start,
+            row.as_mut_ptr(),
+            row.len(),
+            shape.as_mut_ptr(),
+            shape.len(),
+            place,
+            next,
+        )
+    }
+}
+
+/// Writes the colour numbers of all scan lines and their shape: 0, or a number of
+/// a picture or of its rows.
+pub fn ilbm_shape_frame(
+    file: &[u8],
+    picture: usize,
+    frame: &mut [u8],
+    shape: &mut [u8],
+    place: &mut usize,
+    leftover: &mut usize,
+) -> usize {
+    unsafe {
+        exported::ilbm_shape_frame(
+            file.as_ptr(),
+            file.len(),
+            picture,
+            frame.as_mut_ptr(),
+            frame.len(),
+            shape.as_mut_ptr(),
+            shape.len(),
+            place,
+            leftover,
+        )
+    }
+}
+
 /// Tells all pictures, 30 numbers each: 0, or 1 to 12 with the place, or 13 if
 /// the table has fewer places than there are pictures. Of each: its answer, its
 /// FORM's place and type; for BMHD, CMAP, GRAB, DEST, SPRT and CAMG the origin
@@ -632,12 +746,85 @@ pub fn ilbm_body_frame(
     }
 }
 
+/// Writes the colour numbers of a scan line from a place of any bytes as a BODY,
+/// and its shape: 0, or 41, 42, 43, 24, 29, 28, 44, 27 or 26, tried in this order.
+#[allow(clippy::too_many_arguments)]
+pub fn ilbm_body_shape_line(
+    body: &[u8],
+    w: u16,
+    planes: u8,
+    masking: u8,
+    compression: u8,
+    transparent: u16,
+    start: usize,
+    row: &mut [u8],
+    shape: &mut [u8],
+    place: &mut usize,
+    next: &mut usize,
+) -> usize {
+    unsafe {
+        exported::ilbm_body_shape_line(
+            body.as_ptr(),
+            body.len(),
+            w,
+            planes,
+            masking,
+            compression,
+            transparent,
+            start,
+            row.as_mut_ptr(),
+            row.len(),
+            shape.as_mut_ptr(),
+            shape.len(),
+            place,
+            next,
+        )
+    }
+}
+
+/// Writes the colour numbers of all scan lines of any bytes as a BODY and their
+/// shape: 0, or 41, 42, 43, 24, 28, 44, 27 or 26, tried in this order.
+#[allow(clippy::too_many_arguments)]
+pub fn ilbm_body_shape_frame(
+    body: &[u8],
+    w: u16,
+    h: u16,
+    planes: u8,
+    masking: u8,
+    compression: u8,
+    transparent: u16,
+    frame: &mut [u8],
+    shape: &mut [u8],
+    place: &mut usize,
+    leftover: &mut usize,
+) -> usize {
+    unsafe {
+        exported::ilbm_body_shape_frame(
+            body.as_ptr(),
+            body.len(),
+            w,
+            h,
+            planes,
+            masking,
+            compression,
+            transparent,
+            frame.as_mut_ptr(),
+            frame.len(),
+            shape.as_mut_ptr(),
+            shape.len(),
+            place,
+            leftover,
+        )
+    }
+}
+
 /// Packs a row: 0, or 31 or 32.
 pub fn byterun_pack(row: &[u8], out: &mut [u8], length: &mut usize) -> usize {
     unsafe { exported::byterun_pack(row.as_ptr(), row.len(), out.as_mut_ptr(), out.len(), length) }
 }
 
-/// Writes one picture as a file: 0, or 33, 34, 35 or 32.
+/// Writes one picture as a file: 0, or 33, 34, 45, 35 or 32. The shape has a byte
+/// for each pixel with masking 1, and none else.
 #[allow(clippy::too_many_arguments)]
 pub fn ilbm_write(
     w: u16,
@@ -654,6 +841,7 @@ pub fn ilbm_write(
     page_height: i16,
     palette: &[u8],
     frame: &[u8],
+    shape: &[u8],
     out: &mut [u8],
     length: &mut usize,
 ) -> usize {
@@ -675,6 +863,8 @@ pub fn ilbm_write(
             palette.len(),
             frame.as_ptr(),
             frame.len(),
+            shape.as_ptr(),
+            shape.len(),
             out.as_mut_ptr(),
             out.len(),
             length,

@@ -27,6 +27,10 @@
 //! # Ok::<(), florinhado::Refused>(())
 //! ```
 //!
+//! A brush has a shape: [`Picture::frame_with_shape`] tells which pixels show, by
+//! a mask plane or a transparent colour, and [`write_with_shape`] writes a mask
+//! plane.
+//!
 //! # Refusals of a picture
 //!
 //! Every call on a picture is refused by the file's structure, 1 to 12 with the
@@ -34,9 +38,9 @@
 //! several BODYs, 23 for a property of a wrong size; then for the header: 41
 //! nPlanes over 8, 42 masking over 3, 43 compression over 1, 24 w, h or nPlanes 0
 //! with a BODY. They are tried in this order. The calls on its rows have more: 25
-//! for no BODY, 29 for a start place beyond its end, 28 for a row or frame of a
-//! wrong length, 27 and 26 with the place in the BODY. [`Refused::meaning`] tells
-//! each in words:
+//! for no BODY, 29 for a start place beyond its end, 28 for a row, frame or shape
+//! of a wrong length, 44 where a shape is asked for and masking is 3, 27 and 26
+//! with the place in the BODY. [`Refused::meaning`] tells each in words:
 //!
 //! ```
 //! # let fields = florinhado::Header { width: 3, height: 1, planes: 2, ..Default::default() };
@@ -61,6 +65,7 @@ mod check;
 mod copy;
 mod data;
 mod file;
+mod lines;
 mod pack;
 mod palette;
 mod picture;
@@ -68,6 +73,7 @@ mod pictures;
 mod properties;
 mod record;
 mod rows;
+mod shapes;
 mod write;
 
 pub use answer::Refused;
@@ -75,12 +81,14 @@ pub use check::{check, Accepted};
 pub use copy::clean_copy;
 pub use data::data;
 pub use file::File;
+pub use lines::{Lines, ShapedLines};
 pub use pack::pack;
 pub use palette::palette;
-pub use picture::{Lines, Picture};
+pub use picture::Picture;
 pub use pictures::count_pictures;
 pub use properties::{bmhd, destination, grab, header, sprite, view_mode};
 pub use properties::{Destination, Header, HotSpot, Origin, Property};
 pub use record::{record, records, Kind, Record};
 pub use rows::{body_frame, body_line, frame, scan_line};
-pub use write::write;
+pub use shapes::{body_shape_frame, body_shape_line, shape_frame, shape_line, Shaped};
+pub use write::{write, write_with_shape};

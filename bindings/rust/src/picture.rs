@@ -1,8 +1,10 @@
 //! A picture by its row of the table.
 
 use crate::answer::{answer, Refused};
+use crate::lines::{Lines, Read, ShapedLines};
 use crate::properties::{bmhd, Destination, Header, HotSpot, Origin, Property};
 use crate::rows::{body_frame, body_line};
+use crate::shapes::{body_shape_frame, body_shape_line, Shaped};
 
 /// The numbers of a picture in the table.
 pub(crate) type Row = [usize; 30];
@@ -186,12 +188,10 @@ impl<'a> Picture<'a> {
     /// # Ok::<(), florinhado::Refused>(())
     /// ```
     pub fn frame(&self) -> Result<Vec<u8>, Refused> {
-        let (header, body) = (self.header()?.value, self.body()?);
-        let pixels = usize::from(header.width) * usize::from(header.height);
-        if pixels / PIXELS_OF_A_BYTE > body.len() {
-            // The BODY is too short for it; no room is made for what can't be filled.
+        let (header, body) = self.read()?;
+        let Some(pixels) = pixels(&header, body) else {
             return Ok(self.lines().collect::<Result<Vec<_>, _>>()?.concat());
-        }
+        };
         let mut frame = vec![0; pixels];
         body_frame(body, &header, &mut frame)?;
         Ok(frame)
@@ -210,8 +210,8 @@ impl<'a> Picture<'a> {
     /// # Ok::<(), florinhado::Refused>(())
     /// ```
     pub fn frame_into(&self, frame: &mut [u8]) -> Result<usize, Refused> {
-        let header = self.header()?.value;
-        body_frame(self.body()?, &header, frame)
+        let (header, body) = self.read()?;
+        body_frame(body, &header, frame)
     }
 
     /// The scan lines in turn; see [`Lines`].
@@ -223,9 +223,7 @@ impl<'a> Picture<'a> {
     /// # Ok::<(), florinhado::Refused>(())
     /// ```
     pub fn lines(&self) -> Lines<'a> {
-        let read = self.header().and_then(|header| Ok((header.value, self.body()?)));
-        let left = read.map_or(1, |(header, _)| header.height);
-        Lines { read, start: 0, left }
+        Lines::of(self.read())
     }
 
     /// Writes the colour numbers of the scan line at this place of the BODY to
@@ -240,8 +238,90 @@ impl<'a> Picture<'a> {
     /// # Ok::<(), florinhado::Refused>(())
     /// ```
     pub fn line_into(&self, start: usize, row: &mut [u8]) -> Result<usize, Refused> {
-        let header = self.header()?.value;
-        body_line(self.body()?, &header, start, row)
+        let (header, body) = self.read()?;
+        body_line(body, &header, start, row)
+    }
+
+    /// The colour numbers of all scan lines with their shape, 1 for each pixel that
+    /// shows and 0 for each that doesn't; 44 for masking 3, whose shape is not
+    /// worked out.
+    ///
+    /// ```
+    /// use florinhado::{write_with_shape, File, Header};
+    /// let brush = Header { width: 2, height: 2, planes: 1, masking: 1, ..Header::default() };
+    /// let mut bytes = [0; 64];
+    /// let length = write_with_shape(&brush, b"", &[1, 1, 0, 1], &[1, 0, 1, 1], &mut bytes)?;
+    /// let shaped = File::new(&bytes[..length])?.picture(0).unwrap().frame_with_shape()?;
+    /// assert_eq!(shaped.colours, [1, 1, 0, 1]);
+    /// assert_eq!(shaped.shape, [1, 0, 1, 1]);
+    /// # Ok::<(), florinhado::Refused>(())
+    /// ```
+    pub fn frame_with_shape(&self) -> Result<Shaped, Refused> {
+        let (header, body) = self.read()?;
+        let Some(pixels) = pixels(&header, body) else {
+            let lines = self.lines_with_shape().collect::<Result<Vec<_>, _>>()?;
+            let (colours, shape): (Vec<_>, Vec<_>) =
+                lines.into_iter().map(|line| (line.colours, line.shape)).unzip();
+            return Ok(Shaped { colours: colours.concat(), shape: shape.concat() });
+        };
+        let mut frame = Shaped::room(pixels);
+        body_shape_frame(body, &header, &mut frame.colours, &mut frame.shape)?;
+        Ok(frame)
+    }
+
+    /// Writes the colour numbers of all scan lines to `frame` and their shape to
+    /// `shape`, each with a byte for each pixel, and gives how many bytes of the
+    /// BODY are left over. A refusal changes neither.
+    ///
+    /// ```
+    /// let file = florinhado::File::new(include_bytes!("../../../samples/headers.iff"))?;
+    /// let (mut frame, mut shape) = ([9; 6], [9; 6]);
+    /// assert_eq!(file.picture(5).unwrap().frame_with_shape_into(&mut frame, &mut shape)?, 0);
+    /// assert_eq!((frame, shape), ([1, 2, 3, 2, 1, 0], [1; 6]));
+    /// # Ok::<(), florinhado::Refused>(())
+    /// ```
+    pub fn frame_with_shape_into(&self, frame: &mut [u8], shape: &mut [u8]) -> Result<usize, Refused> {
+        let (header, body) = self.read()?;
+        body_shape_frame(body, &header, frame, shape)
+    }
+
+    /// The scan lines with their shape in turn; see [`ShapedLines`].
+    ///
+    /// ```
+    /// let file = florinhado::File::new(include_bytes!("../../../samples/headers.iff"))?;
+    /// for line in file.picture(5).unwrap().lines_with_shape() {
+    ///     assert_eq!(line?.shape, [1, 1, 1]);
+    /// }
+    /// # Ok::<(), florinhado::Refused>(())
+    /// ```
+    pub fn lines_with_shape(&self) -> ShapedLines<'a> {
+        ShapedLines::of(self.read())
+    }
+
+    /// Writes the colour numbers of the scan line at this place of the BODY to
+    /// `row` and its shape to `shape`, each with a byte for each pixel, and gives
+    /// the place at which the next line starts. A refusal changes neither.
+    ///
+    /// ```
+    /// let file = florinhado::File::new(include_bytes!("../../../samples/headers.iff"))?;
+    /// let (mut row, mut shape) = ([9; 3], [9; 3]);
+    /// let next = file.picture(5).unwrap().line_with_shape_into(4, &mut row, &mut shape)?;
+    /// assert_eq!((row, shape, next), ([2, 1, 0], [1, 1, 1], 8));
+    /// # Ok::<(), florinhado::Refused>(())
+    /// ```
+    pub fn line_with_shape_into(
+        &self,
+        start: usize,
+        row: &mut [u8],
+        shape: &mut [u8],
+    ) -> Result<usize, Refused> {
+        let (header, body) = self.read()?;
+        body_shape_line(body, &header, start, row, shape)
+    }
+
+    /// The header and the BODY, or what the picture is refused with.
+    fn read(&self) -> Read<'a> {
+        Ok((self.header()?.value, self.body()?))
     }
 
     /// The value, unless the picture is refused.
@@ -271,40 +351,9 @@ impl<'a> Picture<'a> {
     }
 }
 
-/// The scan lines of a [`Picture`] from the first on, each as its colour
-/// numbers, a byte for each pixel. After a refusal, of the picture or of a line,
-/// there are no more.
-///
-/// ```
-/// let file = florinhado::File::new(b"FORM\0\0\0\x04ILBM")?;
-/// let mut lines: florinhado::Lines = file.picture(0).unwrap().lines();
-/// assert_eq!(lines.next().unwrap().unwrap_err().number, 21);
-/// assert!(lines.next().is_none());
-/// # Ok::<(), florinhado::Refused>(())
-/// ```
-#[derive(Clone, Debug)]
-pub struct Lines<'a> {
-    /// The header and the BODY, or what the picture is refused with.
-    read: Result<(Header, &'a [u8]), Refused>,
-    /// Where the next line starts in the BODY.
-    start: usize,
-    /// How many lines, or refusals, are still to come.
-    left: u16,
-}
-
-impl Iterator for Lines<'_> {
-    type Item = Result<Vec<u8>, Refused>;
-
-    fn next(&mut self) -> Option<Self::Item> {
-        self.left = self.left.checked_sub(1)?;
-        let line = self.read.and_then(|(header, body)| {
-            let mut row = vec![0; header.width.into()];
-            self.start = body_line(body, &header, self.start, &mut row)?;
-            Ok(row)
-        });
-        if line.is_err() {
-            self.left = 0;
-        }
-        Some(line)
-    }
+/// How many pixels a frame has; nothing if the BODY is too short for it, as no room is made for what can't
+/// be filled.
+fn pixels(header: &Header, body: &[u8]) -> Option<usize> {
+    let pixels = usize::from(header.width) * usize::from(header.height);
+    (pixels / PIXELS_OF_A_BYTE <= body.len()).then_some(pixels)
 }

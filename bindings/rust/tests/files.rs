@@ -1,7 +1,7 @@
 //! A file opened once gives what the functions by number give.
 
-use florinhado::{destination, frame, grab, header, palette, records, sprite, view_mode, write};
-use florinhado::{File, Header, Refused};
+use florinhado::{destination, frame, grab, header, palette, records, shape_frame, sprite, view_mode, write};
+use florinhado::{File, Header, Refused, Shaped};
 
 const SAMPLES: [&[u8]; 5] = [
     include_bytes!("../../../samples/form.iff"),
@@ -30,6 +30,9 @@ fn samples_both_ways() {
             let told = frame(bytes, number, &mut pixels).map(|_| pixels);
             assert_eq!(picture.frame(), told);
             assert_eq!(picture.lines().collect::<Result<Vec<_>, _>>().map(|lines| lines.concat()), told);
+            let (mut colours, mut shape) = (vec![0; size], vec![0; size]);
+            let told = shape_frame(bytes, number, &mut colours, &mut shape);
+            assert_eq!(picture.frame_with_shape(), told.map(|_| Shaped { colours, shape }));
         }
         assert!(file.picture(file.pictures().len()).is_none());
     }
@@ -65,6 +68,8 @@ fn no_body() {
     assert_eq!((picture.refusal(), picture.body()), (None, Err(refused)));
     assert_eq!((picture.frame(), picture.frame_into(&mut [])), (Err(refused), Err(refused)));
     assert_eq!(picture.lines().collect::<Vec<_>>(), [Err(refused)]);
+    assert_eq!(picture.frame_with_shape(), Err(refused));
+    assert_eq!(picture.lines_with_shape().collect::<Vec<_>>(), [Err(refused)]);
 }
 
 /// A header that promises far more than the BODY holds: the first line that isn't there is told.
@@ -80,4 +85,11 @@ fn far_too_short() {
     assert_eq!(picture.frame(), Err(refused));
     let lines: Vec<_> = picture.lines().collect();
     assert_eq!(lines, [Ok(vec![1, 0]), Ok(vec![0, 1]), Ok(vec![1, 1]), Err(refused)]);
+    assert_eq!(picture.frame_with_shape(), Err(refused));
+    let shapes: Vec<_> = picture.lines_with_shape().map(|line| line.map(|line| line.shape)).collect();
+    assert_eq!(shapes, [Ok(vec![1, 1]), Ok(vec![1, 1]), Ok(vec![1, 1]), Err(refused)]);
+    bytes[29] = 3;
+    let lasso = File::new(&bytes).unwrap().picture(0).unwrap();
+    assert_eq!(lasso.frame_with_shape(), Err(Refused { number: 44, place: 0 }));
+    assert_eq!(lasso.frame(), Err(refused));
 }

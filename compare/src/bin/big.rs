@@ -109,11 +109,13 @@ fn too_long() -> Case {
 }
 
 /// A picture of the greatest width, as the second writer writes it.
-fn widest_picture(compression: u8) -> Case {
-    let WriterInput { fields, palette, frame, room } = widest(200, compression, true);
-    let file = second::write_picture(&fields, &palette, &frame, room).expect("a picture that can be written");
+fn widest_picture(masking: u8, compression: u8) -> Case {
+    let WriterInput { fields, palette, frame, shape, room } = widest(200, masking, compression, true);
+    let file = second::write_picture(&fields, &palette, &frame, &shape, room);
+    let file = file.expect("a picture that can be written");
     let known = Ok(accepted(4, file.len()));
-    Case { name: "picture of 65,535 by 200, 8 planes", file: filled_up(file), known }
+    let name = if masking == 1 { "the same with a mask plane" } else { "picture of 65,535 by 200, 8 planes" };
+    Case { name, file: filled_up(file), known }
 }
 
 fn run(case: &Case) -> Result<(), String> {
@@ -125,18 +127,21 @@ fn run(case: &Case) -> Result<(), String> {
     Subject::large(&mut random, &case.file).compare(&mut random, &mut Tally::default())
 }
 
-/// A picture of the greatest width and 256 colours, noise or one colour.
-fn widest(height: u16, compression: u8, noise: bool) -> WriterInput {
+/// A picture of the greatest width and 256 colours, noise or one colour; with masking 1 the shape is of
+/// the same.
+fn widest(height: u16, masking: u8, compression: u8, noise: bool) -> WriterInput {
     let mut random = Random::new(7);
-    let colour = |_| if noise { random.byte() } else { 200 };
-    let frame = (0..65_535 * usize::from(height)).map(colour).collect();
+    let pixels = 65_535 * usize::from(height);
+    let frame: Vec<u8> = (0..pixels).map(|_| if noise { random.byte() } else { 200 }).collect();
+    let shape =
+        if masking == 1 { frame.iter().rev().map(|colour| colour >> 7).collect() } else { Vec::new() };
     let fields = Fields {
         width: 65_535,
         height,
         x: -1,
         y: 1,
         planes: 8,
-        masking: 2,
+        masking,
         compression,
         transparent_color: 255,
         x_aspect: 1,
@@ -144,28 +149,45 @@ fn widest(height: u16, compression: u8, noise: bool) -> WriterInput {
         page_width: 320,
         page_height: -200,
     };
-    WriterInput { fields, palette: vec![9; 768], frame, room: LONGEST_FILE }
+    WriterInput { fields, palette: vec![9; 768], frame, shape, room: LONGEST_FILE }
 }
 
-/// Writes the largest pictures; each is known to be written, or to be 35.
+/// Height, masking, compression and noise of the largest pictures, each known to be written, or to be 35.
+const WRITTEN: [(u16, u8, u8, bool, usize); 9] = [
+    (255, 2, 0, true, 0),
+    (256, 2, 0, true, 35),
+    (253, 2, 1, true, 0),
+    (255, 2, 1, true, 35),
+    (256, 2, 1, false, 0),
+    (227, 1, 0, true, 0),
+    (228, 1, 0, true, 35),
+    (225, 1, 1, true, 0),
+    (227, 1, 1, true, 35),
+];
+
 fn write_pictures() -> Result<(), String> {
-    let cases =
-        [(255, 0, true, 0), (256, 0, true, 35), (253, 1, true, 0), (255, 1, true, 35), (256, 1, false, 0)];
-    for (height, compression, noise, known) in cases {
-        let start = Instant::now();
-        let name = format!("picture of 65,535 by {height}, compression {compression}, noise {noise}");
-        let answer = written(&widest(height, compression, noise), &mut Random::new(1));
-        let answer = answer.map_err(|text| format!("{name}: {text}"))?;
-        if answer != known {
-            return Err(format!("{name}: {answer}, known is {known}"));
-        }
-        println!("{name}: {answer}, as known, {:.1} s", start.elapsed().as_secs_f64());
+    for (height, masking, compression, noise, known) in WRITTEN {
+        write_picture(widest(height, masking, compression, noise), known)?;
     }
+    let mut wrong = widest(228, 1, 0, true);
+    *wrong.shape.last_mut().expect("a shape") = 2;
+    write_picture(wrong, 45)
+}
+
+fn write_picture(input: WriterInput, known: usize) -> Result<(), String> {
+    let start = Instant::now();
+    let Fields { height, masking, compression, .. } = input.fields;
+    let name = format!("picture of 65,535 by {height}, masking {masking}, compression {compression}");
+    let answer = written(&input, &mut Random::new(1)).map_err(|text| format!("{name}: {text}"))?;
+    if answer != known {
+        return Err(format!("{name}: {answer}, known is {known}"));
+    }
+    println!("{name}: {answer}, as known, {:.1} s", start.elapsed().as_secs_f64());
     Ok(())
 }
 
 fn run_all(count: usize) -> ExitCode {
-    let cases: [&dyn Fn() -> Case; 13] = [
+    let cases: [&dyn Fn() -> Case; 15] = [
         &full_form,
         &full_cat,
         &|| list_of_props(count),
@@ -177,8 +199,10 @@ fn run_all(count: usize) -> ExitCode {
         &many_sharing,
         &too_deep,
         &too_long,
-        &|| widest_picture(0),
-        &|| widest_picture(1),
+        &|| widest_picture(2, 0),
+        &|| widest_picture(2, 1),
+        &|| widest_picture(1, 0),
+        &|| widest_picture(1, 1),
     ];
     for case in cases {
         let case = case();

@@ -32,7 +32,7 @@ fn picture() -> Vec<u8> {
     };
     let palette: Vec<u8> = (0..16).flat_map(|n| [n * 17, n * n, 255 - n * 17]).collect();
     let frame: Vec<u8> = (0..WIDTH * HEIGHT).map(|n| colour(n % WIDTH, n / WIDTH)).collect();
-    write_picture(&fields, &palette, &frame, usize::MAX).expect("a picture that can be written")
+    write_picture(&fields, &palette, &frame, b"", usize::MAX).expect("a picture that can be written")
 }
 
 fn main() -> Result<(), Error> {

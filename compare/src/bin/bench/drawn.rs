@@ -21,13 +21,17 @@ impl Shape {
     }
 
     pub fn fields(self, compression: u8) -> Fields {
+        self.masked(compression, 0)
+    }
+
+    fn masked(self, compression: u8, masking: u8) -> Fields {
         Fields {
             width: self.width as u16,
             height: self.height as u16,
             x: 0,
             y: 0,
             planes: self.planes as u8,
-            masking: 0,
+            masking,
             compression,
             transparent_color: 0,
             x_aspect: 10,
@@ -35,6 +39,14 @@ impl Shape {
             page_width: 320,
             page_height: 200,
         }
+    }
+
+    /// 1 in a disc around the middle.
+    fn disc(self) -> Vec<u8> {
+        let far = |at: usize, size: usize| (2 * at + 1).abs_diff(size).pow(2);
+        let inside =
+            |n| far(n % self.width, self.width) + far(n / self.width, self.height) < self.height.pow(2);
+        (0..self.width * self.height).map(|n| u8::from(inside(n))).collect()
     }
 
     /// A frame by a colour for each pixel, of which the low bits count.
@@ -82,9 +94,33 @@ pub fn few() -> [&'static Kind; 3] {
 impl Kind {
     pub fn picture(&self, shape: Shape, compression: u8, number: u64) -> Drawn {
         let frame = (self.draw)(shape, number);
-        let file = write_picture(&shape.fields(compression), &[0; 96], &frame, usize::MAX);
-        Drawn { frame, file: file.expect("a picture that can be written") }
+        drawn_by(shape.fields(compression), frame, &[])
     }
+
+    /// The same with a masking: a disc shows, or all that has another colour than the first pixel.
+    pub fn brush(&self, shape: Shape, compression: u8, masking: u8, number: u64) -> Brush {
+        let frame = (self.draw)(shape, number);
+        let mut fields = shape.masked(compression, masking);
+        fields.transparent_color = frame[0].into();
+        let shown: Vec<u8> = match masking {
+            1 => shape.disc(),
+            2 => frame.iter().map(|colour| u8::from(*colour != frame[0])).collect(),
+            _ => vec![1; frame.len()],
+        };
+        let mask = if masking == 1 { &shown[..] } else { &[] };
+        Brush { drawn: drawn_by(fields, frame, mask), shape: shown }
+    }
+}
+
+/// A picture with its shape.
+pub struct Brush {
+    pub drawn: Drawn,
+    pub shape: Vec<u8>,
+}
+
+fn drawn_by(fields: Fields, frame: Vec<u8>, mask: &[u8]) -> Drawn {
+    let file = write_picture(&fields, &[0; 96], &frame, mask, usize::MAX);
+    Drawn { frame, file: file.expect("a picture that can be written") }
 }
 
 /// Every pixel any colour.

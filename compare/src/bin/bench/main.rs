@@ -1,11 +1,13 @@
 //! `bench [PART]`: times of the library beside the second reader and plain
 //! programs in Rust, each line in turns in one run, as medians. Of the parts
-//! structure, frames, rows, pictures and growth the one that is named, or all. Where the
-//! variable OUTSIDE names the shared object of `libavcodec.c`, frames are timed
-//! beside libavcodec too. Fails if something takes more than 2.3 times as long
-//! for twice the input, a call on a picture inside many PROPs more than twice
-//! the check, or many pictures of a file far more than they may.
+//! structure, frames, shapes, rows, pictures and growth the one that is named, or
+//! all. Where the variable OUTSIDE names the shared object of `libavcodec.c`,
+//! frames are timed beside libavcodec too. Fails if something takes more than 2.3
+//! times as long for twice the input, a call on a picture inside many PROPs more
+//! than twice the check, or a frame with its shape or many pictures of a file far
+//! more than they may.
 
+mod brushes;
 mod drawn;
 mod frames;
 mod listing;
@@ -39,6 +41,9 @@ fn main() -> ExitCode {
         let outside = std::env::var("OUTSIDE").ok().map(|name| Outside::load(&name));
         frames::against_others(outside.as_ref());
     }
+    if asked("shapes") {
+        within &= brushes::within_limits();
+    }
     if asked("rows") {
         packing::against_others();
         writing::against_others();
@@ -48,8 +53,8 @@ fn main() -> ExitCode {
     }
     if asked("growth") {
         timing::growth_heading();
-        let greatest =
-            frames::growth().max(packing::growth()).max(writing::growth()).max(structure::growth());
+        let rows = frames::growth().max(brushes::growth()).max(packing::growth()).max(writing::growth());
+        let greatest = rows.max(structure::growth());
         within &= at_most("twice the input", greatest, GREATEST_GROWTH);
     }
     if within {

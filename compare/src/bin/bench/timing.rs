@@ -70,17 +70,30 @@ fn in_turns<const COUNT: usize>(mut programs: [Timed; COUNT]) -> Told<COUNT> {
 /// and how many turns there are.
 const LONG: (f64, usize) = (5e-3, 31);
 
-/// The median microseconds of a run of each program, in turns that are long
+/// The microseconds of a run of each program in each of many turns that are long
 /// enough for caches and predictors to be its own.
-pub fn steady(mut programs: Vec<Timed>) -> Vec<f64> {
-    let mut turns: Vec<Vec<f64>> = Vec::new();
+fn long_turns(mut programs: Vec<Timed>) -> Vec<Vec<f64>> {
     let times: Vec<u32> =
         programs.iter_mut().map(|program| (LONG.0 / program(1)).clamp(1.0, 1e6).ceil() as u32).collect();
-    for _ in 0..LONG.1 {
-        let turn = programs.iter_mut().zip(&times);
-        turns.push(turn.map(|(program, times)| program(*times) / f64::from(*times) * 1e6).collect());
-    }
-    (0..programs.len()).map(|n| median(turns.iter().map(|turn| turn[n]).collect())).collect()
+    let mut turn = || {
+        let each = programs.iter_mut().zip(&times);
+        each.map(|(program, times)| program(*times) / f64::from(*times) * 1e6).collect()
+    };
+    (0..LONG.1).map(|_| turn()).collect()
+}
+
+/// The median microseconds of a run of each program in its steady state.
+pub fn steady(programs: Vec<Timed>) -> Vec<f64> {
+    let count = programs.len();
+    let turns = long_turns(programs);
+    (0..count).map(|n| median(turns.iter().map(|turn| turn[n]).collect())).collect()
+}
+
+/// The same of two, and the median ratio of the first to the second in one turn.
+pub fn steady_ratio(first: Timed, second: Timed) -> [f64; 3] {
+    let turns = long_turns(vec![first, second]);
+    let values: [fn(&Vec<f64>) -> f64; 3] = [|turn| turn[0], |turn| turn[1], |turn| turn[0] / turn[1]];
+    values.map(|value| median(turns.iter().map(value).collect()))
 }
 
 /// The heading of lines of the library beside others.

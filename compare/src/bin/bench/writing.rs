@@ -42,7 +42,7 @@ fn library(picture: &Drawn) -> Timed<'_> {
 
 fn second_writer(picture: &Drawn) -> Timed<'_> {
     written(picture, |fields, frame, out| {
-        let file = second::write_picture(fields, &PALETTE, frame, out.len()).expect("room enough");
+        let file = second::write_picture(fields, &PALETTE, frame, b"", out.len()).expect("room enough");
         out[..file.len()].copy_from_slice(&file);
         file.len()
     })
