@@ -7,9 +7,32 @@ use ilbm_spec::FrameAnswer;
 use ilbm_spec::LineAnswer;
 ghost use mathlib.Core.Path.{_≡_};
 ghost use Prim.Native.Nat.{_≤_};
+ghost use lib.Dec.{eqb};
 ghost use lib.ListN.{length};
+ghost use Rattle.iff_name.specs.Name.{both};
 ghost use Rattle.ilbm_spec.specs.Rows.{lineAnswer, frameAnswer};
 ghost use Rattle.ilbm_spec.specs.Shapes.{bodyShapeLine, bodyShapeFrame, shapeLineInBody, shapeFrameInBody, coloursAfter, shapeAfter};
+ghost use Rattle.ilbm_body_shapes.specs.Refusals.{Refuses};
+
+// Whether colours and shape have a byte for each pixel.
+fn both_right(colours: usize, shape: usize, pixels: usize) -> bool
+    ensures { λ r. ⌜ r ≡ both (eqb colours pixels) (eqb shape pixels) ⌝ }
+{
+    (colours == pixels) & (shape == pixels)
+}
+
+// 28 for wrong lengths, 44 for masking 3, or 0.
+fn shape_refusal(right: bool, masking: u8) -> usize
+    ensures { λ r. ⌜ Refuses r right masking ⌝ }
+{
+    if !right {
+        return 28;
+    }
+    if masking == 3 {
+        return 44;
+    }
+    0
+}
 
 // A scan line by fields that pass.
 fn sound_shape_line(
@@ -41,23 +64,10 @@ fn sound_shape_line(
         };
     }
     let width = w as usize;
-    if row.len() != width {
-        return LineAnswer::Refused {
-            number: 28,
-            place: 0,
-        };
-    }
-    if shape.len() != width {
-        return LineAnswer::Refused {
-            number: 28,
-            place: 0,
-        };
-    }
-    if masking == 3 {
-        return LineAnswer::Refused {
-            number: 44,
-            place: 0,
-        };
+    let right = both_right(row.len(), shape.len(), width);
+    let number = shape_refusal(right, masking);
+    if number != 0 {
+        return LineAnswer::Refused { number, place: 0 };
     }
     scan_shaped_row(
         body,
@@ -138,23 +148,10 @@ fn sound_shape_frame(
     let width = w as usize;
     let height = h as usize;
     let pixels = width * height;
-    if frame.len() != pixels {
-        return FrameAnswer::Refused {
-            number: 28,
-            place: 0,
-        };
-    }
-    if shape.len() != pixels {
-        return FrameAnswer::Refused {
-            number: 28,
-            place: 0,
-        };
-    }
-    if masking == 3 {
-        return FrameAnswer::Refused {
-            number: 44,
-            place: 0,
-        };
+    let right = both_right(frame.len(), shape.len(), pixels);
+    let number = shape_refusal(right, masking);
+    if number != 0 {
+        return FrameAnswer::Refused { number, place: 0 };
     }
     let scanned = scan_shaped_frame(
         body,

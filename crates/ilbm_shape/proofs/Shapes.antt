@@ -1,8 +1,7 @@
 -- The mask row is the first row of what lies behind those of the planes. Of the pixels before x each shows or not by its colour; one turn
 -- of the loop adds the next. The masking tells which of the three shapes it is.
-use Prim.Native.Nat.{ℕ, suc, _+_, _-_, _*_, _<_, _≤_}
+use Prim.Native.Nat.{ℕ, _+_, _-_, _*_, _<_, _≤_}
 use mathlib.Core.Path.{_≡_, refl, sym, ap, _∙_}
-use mathlib.Core.Bool.{Bool, true, false}
 use mathlib.Core.List.{List, [], _∷_, _++_, append-nil}
 use lib.Dec.{eqb}
 use lib.ListN.{length, getD, take, drop, set, replicate, length-drop, length-replicate, drop-of-length-le}

@@ -102,19 +102,19 @@ abbrev pub startInside : {A : Type 0} → List ℕ → ℕ → Read A → Read A
 startInside body start line = pick (ltb (length body) start) (refused 29 0) line
 
 -- 28: "lent row not exactly w bytes, or lent frame not w times h"
-abbrev pub ifLent : {A : Type 0} → Bool → Read A → Read A
-ifLent right rows = pick (not right) (refused 28 0) rows
+abbrev pub rightLength : {A : Type 0} → Bool → Read A → Read A
+rightLength right rows = pick (not right) (refused 28 0) rows
 
 -- A scan line of a BODY, by its header's numbers, for a lent row of `room` bytes: 29, 28, then 27 and 26. "A scan line is read from a
 -- place in the BODY and returns the next place".
 abbrev pub bodyLine : List ℕ → ℕ → ℕ → ℕ → ℕ → ℕ → ℕ → Read (List ℕ)
 bodyLine body w planes masking compression start room =
-    startInside body start (ifLent (eqb room w) (lineBy compression w planes (rowsInLine planes masking) body start))
+    startInside body start (rightLength (eqb room w) (lineBy compression w planes (rowsInLine planes masking) body start))
 
 -- A frame likewise: 28, then 27 and 26. "a whole frame is h scan lines from place 0, with the leftover BODY bytes counted"
 abbrev pub bodyFrame : List ℕ → ℕ → ℕ → ℕ → ℕ → ℕ → ℕ → Read (List ℕ)
 bodyFrame body w h planes masking compression room =
-    ifLent (eqb room (w * h))
+    rightLength (eqb room (w * h))
     (leftover (length body) (linesBy compression w planes (rowsInLine planes masking) body h 0))
 
 -- Rows of a BODY by itself, with the header's fields as numbers: 41, 42, 43 or 24 for these fields, and otherwise what is read.

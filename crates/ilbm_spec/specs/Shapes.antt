@@ -7,7 +7,7 @@ use Rattle.iff_name.specs.Name.{both, pick}
 use Rattle.iff_tree.specs.Judge.{found, refused}
 use Rattle.ilbm_spec.specs.Pictures.{Viewed, viewOf, emptyFields, fieldsRefusal}
 use Rattle.ilbm_spec.specs.Rows.{rowLength, rowsInLine, Read, thenRead, coloursFrom, Pixels, colourNumbers, lineWith, linesWith}
-use Rattle.ilbm_spec.specs.Rows.{leftover, startInside, ifLent, onFields, askRows}
+use Rattle.ilbm_spec.specs.Rows.{leftover, startInside, rightLength, onFields, askRows}
 
 -- "Masking 2: 0 exactly where the colour number equals transparentColor."
 unfoldable pub opaque : ℕ → List ℕ → List ℕ
@@ -58,13 +58,13 @@ shapeAsked masking rows = pick (eqb masking 3) (refused 44 0) rows
 abbrev pub bodyShapeLine : List ℕ → ℕ → ℕ → ℕ → ℕ → ℕ → ℕ → ℕ → ℕ → Read Shaped
 bodyShapeLine body w planes masking compression transparent start room shapeRoom =
     startInside body start
-    (ifLent (both (eqb room w) (eqb shapeRoom w))
+    (rightLength (both (eqb room w) (eqb shapeRoom w))
     (shapeAsked masking (shapedLine compression w planes masking transparent body start)))
 
 -- A frame likewise, into two lent frames.
 abbrev pub bodyShapeFrame : List ℕ → ℕ → ℕ → ℕ → ℕ → ℕ → ℕ → ℕ → ℕ → Read Shaped
 bodyShapeFrame body w h planes masking compression transparent room shapeRoom =
-    ifLent (both (eqb room (w * h)) (eqb shapeRoom (w * h)))
+    rightLength (both (eqb room (w * h)) (eqb shapeRoom (w * h)))
     (shapeAsked masking (leftover (length body) (shapedLines compression w planes masking transparent body h 0)))
 
 -- Of any bytes as a BODY, with the header's fields as numbers.

@@ -12,7 +12,7 @@ use Rattle.ilbm_spec.specs.declared.BitmapHeader.{BitmapHeader}
 use Rattle.ilbm_spec.specs.Contents.{Located}
 use Rattle.ilbm_spec.specs.Pictures.{Viewed, headerIn, dataOf}
 use Rattle.ilbm_spec.specs.Rows.{rowLength, rowsInLine, Read, thenRead, rowsFrom, Pixels, colourNumbers, lineWith, linesWith}
-use Rattle.ilbm_spec.specs.Rows.{lineBy, linesBy, leftover, ifLent, onBody, askRows, lineInBody, frameInBody, lineOf, frameOf}
+use Rattle.ilbm_spec.specs.Rows.{lineBy, linesBy, leftover, rightLength, onBody, askRows, lineInBody, frameInBody, lineOf, frameOf}
 use Rattle.ilbm_spec.specs.Rows.{bodyLine, bodyFrame, lineAnswer}
 use Rattle.ilbm_spec.specs.Shapes.{shapeBits, Shaped, together, shapedLine, shapedLines, bodyShapeLine, bodyShapeFrame}
 use Rattle.ilbm_spec.specs.Shapes.{shapeLineInBody, shapeFrameInBody, shapeLineOf, shapeFrameOf}
@@ -99,7 +99,7 @@ module _ (x : Read Shaped) (y : Read (List ℕ)) (i : Beside x y) where
   asked-beside true k p = tt
   asked-beside false k p = i
 
-  lent-beside : (a b : Bool) → Beside (ifLent (both a b) x) (ifLent a y)
+  lent-beside : (a b : Bool) → Beside (rightLength (both a b) x) (rightLength a y)
   lent-beside true true = i
   lent-beside true false = tt
   lent-beside false b = tt
