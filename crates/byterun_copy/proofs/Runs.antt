@@ -54,7 +54,14 @@ first-eight (a ∷ b ∷ c ∷ d ∷ e ∷ []) l = absurd (omega arith)
 first-eight (a ∷ b ∷ c ∷ d ∷ e ∷ f ∷ []) l = absurd (omega arith)
 first-eight (a ∷ b ∷ c ∷ d ∷ e ∷ f ∷ g ∷ []) l = absurd (omega arith)
 
--- eight stores are one paste
+-- three stores are one paste, and eight
+pub pasted-three :
+    (dst : List ℕ) (at a b c : ℕ) → at + 3 ≤ length dst → set (set (set dst at a) (at + 1) b) (at + 2) c ≡ paste dst at (a ∷ b ∷ c ∷ []) 3
+pasted-three dst at a b c l =
+    let one : at + 1 ≡ suc at = omega arith in
+    let two : at + 2 ≡ suc (suc at) = omega arith in
+    rw (one, two) (sets-eq (a ∷ b ∷ c ∷ []) dst at l)
+
 pub pasted-eight :
     (row : List ℕ) (x a b c d e f g h : ℕ) → x + 8 ≤ length row →
     set (set (set (set (set (set (set (set row x a) (x + 1) b) (x + 2) c) (x + 3) d) (x + 4) e) (x + 5) f) (x + 6) g) (x + 7) h

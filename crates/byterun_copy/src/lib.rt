@@ -5,6 +5,16 @@ ghost use Prim.Native.Nat.{_+_, _≤_};
 ghost use lib.ListN.{length, drop, replicate};
 ghost use lib.Seq.{paste};
 
+// Writes three bytes into dst, from `at` on.
+pub fn put_three(dst: &mut [u8], at: usize, a: u8, b: u8, c: u8)
+    requires { ⌜ at + 3 ≤ length (now dst) ⌝ }
+    ensures { λ _. ⌜ now (dst .exit) ≡ paste (now (dst .entry)) at (a ∷ b ∷ c ∷ []) 3 ⌝ }
+{
+    dst[at] = a;
+    dst[at + 1] = b;
+    dst[at + 2] = c;
+}
+
 // Writes eight bytes into dst, from `at` on.
 pub fn put_eight(dst: &mut [u8], at: usize, a: u8, b: u8, c: u8, d: u8, e: u8, f: u8, g: u8, h: u8)
     requires { ⌜ at + 8 ≤ length (now dst) ⌝ }

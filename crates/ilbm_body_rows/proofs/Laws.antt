@@ -3,6 +3,7 @@
 use Prim.Native.Nat.{ℕ, _-_, _*_, _≤_, _<_}
 use mathlib.Core.Path.{_≡_, refl, sym, ap, _∙_}
 use mathlib.Core.List.{List}
+use lib.Dec.{eqb}
 use lib.ListN.{length}
 use mir.Syntax.{w16, w64}
 use mir.Val.{Fits}
@@ -14,7 +15,7 @@ use Rattle.ilbm_spec.specs.declared.LineAnswer.{LineAnswer}
 use Rattle.ilbm_spec.specs.declared.LineAnswer.the-variants.{Next, Refused}
 use Rattle.ilbm_spec.specs.declared.FrameAnswer.{FrameAnswer}
 use Rattle.ilbm_spec.specs.declared.FrameAnswer.the-variants.{Leftover, Refused as Frame-refused}
-use Rattle.ilbm_spec.specs.Rows.{rowsInLine, Read, lineBy, linesBy, leftover, bodyLine, bodyFrame, lineAnswer, frameAnswer, bytesAfter}
+use Rattle.ilbm_spec.specs.Rows.{Read, startInside, rightLength, leftover, lineAnswer, frameAnswer, bytesAfter}
 
 -- the answer and the lent bytes afterwards are those of a reading
 abbrev pub LineAnswered : Read (List ℕ) → List ℕ → LineAnswer → List ℕ → Type 0
@@ -23,20 +24,20 @@ LineAnswered v old r new = (r ≡ lineAnswer v) × (new ≡ bytesAfter v old)
 abbrev pub FrameAnswered : Read (List ℕ) → List ℕ → FrameAnswer → List ℕ → Type 0
 FrameAnswered v old r new = (r ≡ frameAnswer v) × (new ≡ bytesAfter v old)
 
-module _ (body : List ℕ) (w planes masking compression start : ℕ) (old : List ℕ) where
-  abbrev line : Read (List ℕ)
-  line = bodyLine body w planes masking compression start (length old)
+-- a scan line, whatever is made of its rows: n bytes of it are wanted
+module _ (body : List ℕ) (start n : ℕ) (line : Read (List ℕ)) (old : List ℕ) where
+  abbrev asked : Read (List ℕ)
+  asked = startInside body start (rightLength (eqb (length old) n) line)
 
-  pub line-29 : length body < start → LineAnswered line old (Refused 29 0) old
+  pub line-29 : length body < start → LineAnswered asked old (Refused 29 0) old
   line-29 l = rw (lt-ltb _ _ l) (refl, refl)
 
-  pub line-28 : start ≤ length body → (length old ≡ w → ⊥) → LineAnswered line old (Refused 28 0) old
-  line-28 l n = rw (le-ltb _ _ l, ne-eqb _ _ n) (refl, refl)
+  pub line-28 : start ≤ length body → (length old ≡ n → ⊥) → LineAnswered asked old (Refused 28 0) old
+  line-28 l e = rw (le-ltb _ _ l, ne-eqb _ _ e) (refl, refl)
 
   pub line-read :
-      (r : LineAnswer) (new : List ℕ) → start ≤ length body → length old ≡ w →
-      LineAnswered (lineBy compression w planes (rowsInLine planes masking) body start) old r new → LineAnswered line old r new
-  line-read r new l n t = rw (le-ltb _ _ l, eq-eqb _ _ n) t
+      (r : LineAnswer) (new : List ℕ) → start ≤ length body → length old ≡ n → LineAnswered line old r new → LineAnswered asked old r new
+  line-read r new l e t = rw (le-ltb _ _ l, eq-eqb _ _ e) t
 
 -- what is told of lines, with the count of what is left after them
 module _ {A : Type 0} (size : ℕ) (v : Read A) (r : LineAnswer) (e : r ≡ lineAnswer v) where
@@ -58,28 +59,26 @@ left-bytes : (size : ℕ) (v : Read (List ℕ)) (old : List ℕ) → bytesAfter 
 left-bytes size (found (cs, q)) old = refl
 left-bytes size (refused k p) old = refl
 
-module _ (body : List ℕ) (w h planes masking compression : ℕ) (old : List ℕ) where
+-- a frame likewise, of a BODY of so many bytes
+module _ (size n : ℕ) (lines : Read (List ℕ)) (old : List ℕ) where
   abbrev frame : Read (List ℕ)
-  frame = bodyFrame body w h planes masking compression (length old)
+  frame = rightLength (eqb (length old) n) (leftover size lines)
 
-  abbrev lines : Read (List ℕ)
-  lines = linesBy compression w planes (rowsInLine planes masking) body h 0
+  pub frame-28 : (length old ≡ n → ⊥) → FrameAnswered frame old (Frame-refused 28 0) old
+  frame-28 e = rw (ne-eqb _ _ e) (refl, refl)
 
-  pub frame-28 : (length old ≡ w * h → ⊥) → FrameAnswered frame old (Frame-refused 28 0) old
-  frame-28 n = rw (ne-eqb _ _ n) (refl, refl)
+  module _ (e : length old ≡ n) (r : LineAnswer) (new : List ℕ) (t : LineAnswered lines old r new) where
+    is-lines : frame ≡ leftover size lines
+    is-lines = rw (eq-eqb _ _ e)
 
-  module _ (n : length old ≡ w * h) (r : LineAnswer) (new : List ℕ) (t : LineAnswered lines old r new) where
-    is-lines : frame ≡ leftover (length body) lines
-    is-lines = rw (eq-eqb _ _ n)
+    bytes : new ≡ bytesAfter (leftover size lines) old
+    bytes = t .1 ∙ left-bytes size lines old
 
-    bytes : new ≡ bytesAfter (leftover (length body) lines) old
-    bytes = t .1 ∙ left-bytes (length body) lines old
-
-    pub frame-left : (q m : ℕ) → r ≡ Next q → m ≡ length body - q → FrameAnswered frame old (Leftover m) new
-    frame-left q m j d = rw is-lines (left-next (length body) lines r (t .0) q m j d, bytes)
+    pub frame-left : (q m : ℕ) → r ≡ Next q → m ≡ size - q → FrameAnswered frame old (Leftover m) new
+    frame-left q m j d = rw is-lines (left-next size lines r (t .0) q m j d, bytes)
 
     pub frame-refused : (k p : ℕ) → r ≡ Refused k p → FrameAnswered frame old (Frame-refused k p) new
-    frame-refused k p j = rw is-lines (left-refused (length body) lines r (t .0) k p j, bytes)
+    frame-refused k p j = rw is-lines (left-refused size lines r (t .0) k p j, bytes)
 
 -- the pixels of a frame can be counted
 pub pixels-fit : (w h : ℕ) → Fits w16 w → Fits w16 h → Fits w64 (w * h)

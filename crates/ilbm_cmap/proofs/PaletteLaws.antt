@@ -22,7 +22,7 @@ use Rattle.iff_tree.specs.Judge.{refused}
 use Rattle.ilbm_cmap.specs.Parts.{PartIn, partOr, partAt, ColoursAre}
 
 -- the part of a property, or the default: its bytes, where it begins, and that it lies inside
-part-is : (s : List ℕ) (h : Held) (q : Property) (p : Part) (default : List ℕ) → HeldIs s h q → h .part ≡ p →
+pub part-is : (s : List ℕ) (h : Held) (q : Property) (p : Part) (default : List ℕ) → HeldIs s h q → h .part ≡ p →
     partOr s p default ≡ paletteFrom q default
 part-is s h (own d) Nothing default k i = absurd (rw i at (k .1))
 part-is s h (own d) (Between a b) default k i = data-taken s h (own d) a b k i
@@ -43,7 +43,7 @@ part-lies s h absent Nothing file default k i = refl
 part-lies s h absent (Between a b) file default k i = absurd (let j : Nothing ≡ Between a b = sym (k .1) ∙ i in
     let z : _≡_ {A = ℕ} 0 1 = cc in omega arith)
 
-part-in : (s : List ℕ) (h : Held) (q : Property) (p : Part) → HeldIs s h q → h .part ≡ p → PartIn s p
+pub part-in : (s : List ℕ) (h : Held) (q : Property) (p : Part) → HeldIs s h q → h .part ≡ p → PartIn s p
 part-in s h q Nothing k i = tt
 part-in s h q (Between a b) k i = let w = held-data s h q a b k i in (omega (arith, w .1), w .2)
 

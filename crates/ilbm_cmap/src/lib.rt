@@ -43,17 +43,26 @@ pub fn colours_of(s: &[u8], i: usize) -> Colours
     }
 }
 
-// That part of the file, or the default.
+// A part of the file, or the default where there is none.
+pub fn part_or_default<'a>(s: &'a [u8], part: Part, default: &'a [u8]) -> &'a [u8]
+    requires { ⌜ PartIn (now s) part ⌝ }
+    ensures { λ r. ⌜ (now r ≡ partOr (now (s .entry)) part (now (default .entry))) ×
+        (r .ptr ≡ partAt (s .entry .ptr) part (default .entry .ptr)) ⌝ }
+{
+    match part {
+        Part::Nothing => default,
+        Part::Between(from, to) => &s[from..to],
+    }
+}
+
+// The palette's part, or the default.
 fn part_or<'a>(s: &'a [u8], c: Colours, default: &'a [u8]) -> &'a [u8]
     requires { ⌜ PartIn (now s) (c .part) ⌝ }
     ensures { λ r. ⌜ (now r ≡ partOr (now (s .entry)) (c .part) (now (default .entry))) ×
         (r .ptr ≡ partAt (s .entry .ptr) (c .part) (default .entry .ptr)) ⌝ }
 {
     let part = c.part;
-    match part {
-        Part::Nothing => default,
-        Part::Between(from, to) => &s[from..to],
-    }
+    part_or_default(s, part, default)
 }
 
 // The palette of picture i: the CMAP that counts, as a part of the file, or the default where none counts; empty after a refusal.

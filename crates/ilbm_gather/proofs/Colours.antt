@@ -28,7 +28,7 @@ unfolding colourBy
 colour-front x row rows = omega (arith, colour-twice 1 x rows)
 
 -- so many planes, so many bits
-colour-small : (x : ℕ) (rows : List (List ℕ)) → colourBy 1 x rows < 2 ^ length rows
+pub colour-small : (x : ℕ) (rows : List (List ℕ)) → colourBy 1 x rows < 2 ^ length rows
 unfolding colourBy
 colour-small x [] = omega arith
 colour-small x (row ∷ rows) =
@@ -109,11 +109,6 @@ unfolding coloursFrom
 colours-last x zero rows = let e : x + 0 ≡ x = omega arith in rw e
 colours-last x (suc n) rows = let e : x + suc n ≡ suc x + n = omega arith in
     rw e (ap (λ (l : List ℕ). colourBy 1 x rows ∷ l) (colours-last (suc x) n rows))
-
-colours-count : (x n : ℕ) (rows : List (List ℕ)) → length (coloursFrom x n rows) ≡ n
-unfolding coloursFrom
-colours-count x zero rows = refl
-colours-count x (suc n) rows = ap suc (colours-count (suc x) n rows)
 
 -- the first x pixels of a row have their colours
 pub record Gathered (planeRows : List (List ℕ)) (x : ℕ) (row : List ℕ) : Type 0 where

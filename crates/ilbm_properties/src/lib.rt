@@ -57,11 +57,12 @@ fn word_of(s: &[u8], h: Held) -> u16
     }
 }
 
-fn long_of(s: &[u8], h: Held) -> u32
-    requires { ⌜ OfSize (now s) h 4 ⌝ }
-    ensures { λ r. ⌜ LongIs (now (s .entry)) h r ⌝ }
+// The number that CAMG holds, 0 where none counts.
+pub fn view_mode(s: &[u8], camg: Held) -> u32
+    requires { ⌜ OfSize (now s) camg 4 ⌝ }
+    ensures { λ r. ⌜ LongIs (now (s .entry)) camg r ⌝ }
 {
-    let part = h.part;
+    let part = camg.part;
     match part {
         Part::Nothing => 0,
         Part::Between(from, to) => long_at(&s[from..to], 0),
@@ -94,7 +95,7 @@ fn picture_from(s: &[u8], c: Contents, header: BitmapHeader) -> Picture
         destination_from,
         sprite: word_of(s, sprt),
         sprite_from,
-        view_mode: long_of(s, camg),
+        view_mode: view_mode(s, camg),
         view_mode_from,
     }
 }

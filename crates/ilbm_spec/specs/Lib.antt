@@ -5,5 +5,8 @@ pub mod Pictures
 pub mod Palette
 pub mod Rows
 pub mod Shapes
+pub mod Colours
+pub mod Triples
+pub mod ColourExamples
 pub mod Table
 pub mod laws

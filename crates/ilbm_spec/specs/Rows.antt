@@ -12,7 +12,7 @@ use Rattle.ilbm_spec.specs.declared.LineAnswer.the-variants.{Next, Refus
 use Rattle.ilbm_spec.specs.declared.FrameAnswer.{FrameAnswer}
 use Rattle.ilbm_spec.specs.declared.FrameAnswer.the-variants.{Leftover, Refused as Frame-refused}
 use Rattle.iff_tree.specs.Judge.{Found, found, refused}
-use Rattle.ilbm_spec.specs.Contents.{Located}
+use Rattle.ilbm_spec.specs.Contents.{Located, Content}
 use Rattle.ilbm_spec.specs.Pictures.{Viewed, viewOf, dataOf, headerIn, emptyFields, fieldsRefusal}
 
 -- "A plane row is 2 * floor((w+15)/16) bytes."
@@ -130,14 +130,18 @@ abbrev pub frameInBody : List ℕ → ℕ → ℕ → ℕ → ℕ → ℕ → �
 frameInBody body w h planes masking compression room =
     onFields (fieldsRefusal planes masking compression (emptyFields w h planes)) (bodyFrame body w h planes masking compression room)
 
--- Rows are asked of a picture: 25 for no BODY, and otherwise what `rows` says of its header and its BODY.
+-- Rows are asked of a picture: 25 for no BODY, and otherwise what `rows` says of it and its BODY.
 abbrev pub onBody : {A : Type 0} → List Located → (List ℕ → Read A) → Read A
 onBody [] rows = refused 25 0
 onBody (body ∷ others) rows = rows (body .content)
 
+abbrev pub askBody : {A : Type 0} → Viewed → (Content → List ℕ → Read A) → Read A
+askBody (found c) rows = onBody (c .bodies) (λ body. rows c body)
+askBody (refused k p) rows = refused k p
+
+-- the same where of the picture nothing but its header is looked at
 abbrev pub askRows : {A : Type 0} → Viewed → (BitmapHeader → List ℕ → Read A) → Read A
-askRows (found c) rows = onBody (c .bodies) (λ body. rows (headerIn (dataOf (c .bmhd))) body)
-askRows (refused k p) rows = refused k p
+askRows v rows = askBody v (λ c body. rows (headerIn (dataOf (c .bmhd))) body)
 
 abbrev pub lineRead : Viewed → ℕ → ℕ → Read (List ℕ)
 lineRead v start room = askRows v (λ b body. bodyLine body (b .w) (b .planes) (b .masking) (b .compression) start room)

@@ -60,6 +60,13 @@ pub enum PictureAnswer {
     Refused { number: usize, place: usize },
 }
 
+// The colour of a pixel or of a palette's entry.
+pub struct Colour {
+    pub red: u8,
+    pub green: u8,
+    pub blue: u8,
+}
+
 // A scan line's next place, or the number and place of a refusal.
 pub enum LineAnswer {
     Next(usize),

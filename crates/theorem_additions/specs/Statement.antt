@@ -4,7 +4,7 @@ use mathlib.Core.Path.{_≡_}
 use mathlib.Core.Bool.{true}
 use mathlib.Core.List.{List, [], _∷_}
 use lib.Dec.{eqb}
-use lib.ListN.{length}
+use lib.ListN.{length, replicate}
 use Rattle.iff_name.specs.Name.{pick, versionName}
 use Rattle.iff_chunk.specs.Chunks.{Chunk}
 use Rattle.iff_tree.specs.declared.Verdict.the-variants.{Refused}
@@ -27,6 +27,8 @@ use Rattle.ilbm_spec.specs.Pictures.{Viewed, viewOf, pictureOf}
 use Rattle.ilbm_spec.specs.Palette.{paletteAnswer, Extent, paletteExtent}
 use Rattle.ilbm_spec.specs.Rows.{Read, lineOf, frameOf, lineAnswer, frameAnswer, bytesAfter}
 use Rattle.ilbm_spec.specs.Shapes.{Shaped, shapeLineOf, shapeFrameOf, coloursAfter, shapeAfter}
+use Rattle.ilbm_spec.specs.Colours.{colourLineOf, colourFrameOf}
+use Rattle.ilbm_spec.specs.Triples.{triplesOf}
 use Rattle.ilbm_spec.specs.Table.{PropertyRow, BodyRow, PictureRow, tableOf, tableAnswer, tableAfter}
 use Rattle.theorem_additions.specs.Additions.{Addition, treeAfter, fileAfter, MayAddAll, movedBy, addedHeaders, Renaming, renamed}
 use Rattle.theorem_additions.specs.Additions.{lowest}
@@ -130,13 +132,21 @@ shapeLineCall s i start row shape = shapeLineTold (shapeLineOf s i start (length
 abbrev pub shapeFrameCall : List ℕ → ℕ → List ℕ → List ℕ → FrameAnswer × List ℕ × List ℕ
 shapeFrameCall s i frame shape = shapeFrameTold (shapeFrameOf s i (length frame) (length shape)) frame shape
 
+-- in colours, with the caller's default palette
+abbrev pub colourLineCall : List ℕ → ℕ → List ℕ → ℕ → List ℕ → LineAnswer × List ℕ
+colourLineCall s i default start row = lineTold (colourLineOf s i default start (length row)) row
+
+abbrev pub colourFrameCall : List ℕ → ℕ → List ℕ → List ℕ → FrameAnswer × List ℕ
+colourFrameCall s i default frame = frameTold (colourFrameOf s i default (length frame)) frame
+
 abbrev pub tableCall : List ℕ → List ℕ → TableAnswer × List ℕ
 tableCall s table = tableTold (tableOf s (length table)) table
 
 -- Every call on every picture answers as before. What any call is made from, `viewOf`, is the same but for the places of its chunks; and
--- so are properties with origins, the palette and where it lies, a scan line from any place and the frame, into any lent row or frame, and
--- with their shapes into any two; refusals with their places. The table of pictures has as many rows, or is refused, as before, for any
--- room; every place that it tells moves by the bytes put before it, and nothing else.
+-- so are properties with origins, the palette and where it lies, a scan line from any place and the frame, into any lent row or frame,
+-- with their shapes into any two, and in colours with any default palette; the palette's triples; refusals with their places. The table of
+-- pictures has as many rows, or is refused, as before, for any room; every place that it tells moves by the bytes put before it, and
+-- nothing else.
 pub record SameAnswers (f g : List ℕ) (move : ℕ → ℕ) : Type 0 where
   pub views : (i : ℕ) → viewOf g i ≡ movedView move (viewOf f i)
   pub pictures : (i : ℕ) → pictureOf g i ≡ movedAnswer move (pictureOf f i)
@@ -146,10 +156,14 @@ pub record SameAnswers (f g : List ℕ) (move : ℕ → ℕ) : Type 0 where
   pub frames : (i : ℕ) (frame : List ℕ) → frameCall g i frame ≡ frameCall f i frame
   pub shape-lines : (i start : ℕ) (row shape : List ℕ) → shapeLineCall g i start row shape ≡ shapeLineCall f i start row shape
   pub shape-frames : (i : ℕ) (frame shape : List ℕ) → shapeFrameCall g i frame shape ≡ shapeFrameCall f i frame shape
+  pub colour-lines :
+      (i : ℕ) (default : List ℕ) (start : ℕ) (row : List ℕ) → colourLineCall g i default start row ≡ colourLineCall f i default start row
+  pub colour-frames : (i : ℕ) (default frame : List ℕ) → colourFrameCall g i default frame ≡ colourFrameCall f i default frame
+  pub triples : (i : ℕ) (default : List ℕ) → triplesOf g i default ≡ triplesOf f i default
   pub tables : (room : ℕ) → tableOf g room ≡ movedTable move (tableOf f room)
   pub table-answers : (room : ℕ) → tableAnswer (tableOf g room) ≡ tableAnswer (tableOf f room)
 
--- Every call gives refusal 3 at p, and leaves what was lent.
+-- Every call gives refusal 3 at p, and leaves what was lent; the triples are all 0.
 pub record AllRefused (g : List ℕ) (p : ℕ) : Type 0 where
   pub check : checkOf g ≡ Refused 3 p
   pub views : (i : ℕ) → viewOf g i ≡ refused 3 p
@@ -160,6 +174,12 @@ pub record AllRefused (g : List ℕ) (p : ℕ) : Type 0 where
   pub frames : (i : ℕ) (frame : List ℕ) → frameCall g i frame ≡ (Frame-refused 3 p, frame)
   pub shape-lines : (i start : ℕ) (row shape : List ℕ) → shapeLineCall g i start row shape ≡ (Line-refused 3 p, row, shape)
   pub shape-frames : (i : ℕ) (frame shape : List ℕ) → shapeFrameCall g i frame shape ≡ (Frame-refused 3 p, frame, shape)
+  pub colour-lines :
+      (i : ℕ) (default : List ℕ) (start : ℕ) (row : List ℕ) → colourLineCall g i default start row ≡ (Line-refused 3 p, row)
+  pub colour-frames : (i : ℕ) (default frame : List ℕ) → colourFrameCall g i default frame ≡ (Frame-refused 3 p, frame)
+  pub triples :
+      (i : ℕ) (default : List ℕ) →
+      triplesOf g i default ≡ record { number = 3; place = p; triples = replicate 64 (0 ∷ 0 ∷ 0 ∷ []) }
   pub tables : (table : List ℕ) → tableCall g table ≡ (Table-refused 3 p, table)
 
 -- the renamings put version names over added headers

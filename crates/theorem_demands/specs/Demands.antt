@@ -25,6 +25,7 @@ use Rattle.ilbm_spec.specs.declared.BitmapHeader.{BitmapHeader}
 use Rattle.ilbm_spec.specs.declared.TableAnswer.the-variants.{Pictures}
 use Rattle.ilbm_spec.specs.Table.{tableOf, tableAnswer, tableAfter}
 use Rattle.ilbm_spec.specs.laws.Shapes as Shapes
+use Rattle.ilbm_spec.specs.laws.Colours as Colours
 use Rattle.theorem_table.specs.ByTable.{ByTable, RefusedBoth}
 use Rattle.theorem_table.specs.Theorem as Table
 use Rattle.write_picture.specs.declared.WriteAnswer.the-variants.{Written}
@@ -83,6 +84,11 @@ table-refused-as-by-number = Table.refused-both
 pub shape-beside-colours : Shapes.ShapeBesideColours
 shape-beside-colours = Shapes.shape-beside-colours
 
+-- The colours of a line or a frame are those of its colour numbers, with the same next place or leftover and the same refusals but for 46:
+-- by hold-and-modify from black on in each line, and otherwise each number's by itself.
+pub colours-of-numbers : Colours.ColoursOfNumbers
+colours-of-numbers = Colours.colours-of-numbers
+
 -- A packed row unpacks to the row, from any place of any BODY, and grows by at most one byte per started 128.
 pub packed-unpacks : (row : List ℕ) → Packs (packed row) row
 packed-unpacks = Packing.packed-unpacks
@@ -90,8 +96,8 @@ packed-unpacks = Packing.packed-unpacks
 pub packed-short : (row : List ℕ) → length (packed row) ≤ mostFor (length row)
 packed-short = Packing.packed-short
 
--- What is written reads back, with an empty default palette: the same fields but pad1, the same palette and frame, and
--- the shape as the masking says of the frame and the shape that was handed in.
+-- What is written reads back, with an empty default palette: the same fields but pad1, the same palette and frame, the shape as the
+-- masking says of the frame and the shape that was handed in, and the colours and triples that the palette gives.
 pub written-reads-back :
     (b : BitmapHeader) (palette frame shape out : List ℕ) (n : ℕ) → InRange b → writeOf b palette frame shape (length out) ≡ Written n →
     RoundTrip.ReadsBack (take n (outAfter (writeOf b palette frame shape (length out)) (pictureFile b palette frame shape) out))

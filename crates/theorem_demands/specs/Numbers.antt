@@ -57,6 +57,10 @@ ofBodyFrame = ofFields ++ (28 ∷ ofRows)
 abbrev pub andShape : List ℕ → List ℕ
 andShape numbers = 44 ∷ numbers
 
+-- Ask 5's "Refusals, colours only: 46", likewise
+abbrev pub andColours : List ℕ → List ℕ
+andColours numbers = 46 ∷ numbers
+
 -- "a row of 1 to 8,192 bytes (else 31)"; "32, here and everywhere"
 abbrev pub ofPacking : List ℕ
 ofPacking = 31 ∷ 32 ∷ []

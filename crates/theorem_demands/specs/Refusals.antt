@@ -22,18 +22,20 @@ use Rattle.ilbm_spec.specs.Pictures.{pictureOf}
 use Rattle.ilbm_spec.specs.Palette.{paletteAnswer}
 use Rattle.ilbm_spec.specs.Rows.{lineAnswer, lineOf, lineInBody, frameAnswer, frameOf, frameInBody}
 use Rattle.ilbm_spec.specs.Shapes.{shapeLineOf, shapeFrameOf, shapeLineInBody, shapeFrameInBody}
+use Rattle.ilbm_spec.specs.Colours.{colourLineOf, colourFrameOf, colourLineInBody, colourFrameInBody}
+use Rattle.ilbm_spec.specs.Triples.{triplesOf}
 use Rattle.ilbm_spec.specs.Table.{tableOf, tableAnswer}
 use Rattle.ilbm_spec.specs.declared.TableAnswer.the-variants.{Refused as Pictures-refused}
 use Rattle.byterun_pack.specs.Pack.{packNumber, packOf}
 use Rattle.write_picture.specs.Write.{writeOf}
 use Rattle.write_picture.specs.declared.WriteAnswer.the-variants.{Refused as Write-refused}
 use Rattle.theorem_demands.specs.Numbers.{OneOf, structural, ofRecord, ofData, ofTable, ofCopy, ofPicture, ofLine, ofFrame}
-use Rattle.theorem_demands.specs.Numbers.{ofBodyLine, ofBodyFrame, andShape, ofPacking, ofWriting}
+use Rattle.theorem_demands.specs.Numbers.{ofBodyLine, ofBodyFrame, andShape, andColours, ofPacking, ofWriting}
 
 -- The exported calls on a file or a chunk each have a line here, those on a picture's properties one together (`ilbm_header`, `ilbm_grab`,
 -- `ilbm_dest`, `ilbm_sprite`, `ilbm_view_mode`): they tell the number and the place of this answer, and 0 where it is no refusal. So do
--- themselves the calls on a chunk's data, on the palette, of the reader and of the packer. The table of pictures has a line, and so have a
--- scan line and a frame of a BODY by itself, and each of the four that gives the shape too.
+-- themselves the calls on a chunk's data, on the palette and its triples, of the reader and of the packer. The table of pictures has a
+-- line, and so have a scan line and a frame of a BODY by itself, and each of the four that gives the shape too or gives colours.
 pub record Refusals : Type 0 where
   pub check : (s : List ℕ) (k p : ℕ) → checkOf s ≡ Refused k p → OneOf structural k p
   pub clean-copy : (s : List ℕ) (room k p : ℕ) → copyOf s room ≡ Copy-refused k p → OneOf ofCopy k p
@@ -68,6 +70,22 @@ pub record Refusals : Type 0 where
       (body : List ℕ) (w h planes masking compression transparent room shapeRoom k p : ℕ) →
       frameAnswer (shapeFrameInBody body w h planes masking compression transparent room shapeRoom) ≡ Frame-refused k p →
       OneOf (andShape ofBodyFrame) k p
+  pub colour-line :
+      (s : List ℕ) (i : ℕ) (default : List ℕ) (start room k p : ℕ) →
+      lineAnswer (colourLineOf s i default start room) ≡ Line-refused k p → OneOf (andColours ofLine) k p
+  pub colour-frame :
+      (s : List ℕ) (i : ℕ) (default : List ℕ) (room k p : ℕ) →
+      frameAnswer (colourFrameOf s i default room) ≡ Frame-refused k p → OneOf (andColours ofFrame) k p
+  pub body-colour-line :
+      (body : List ℕ) (w planes masking compression mode : ℕ) (palette : List ℕ) (start room k p : ℕ) →
+      lineAnswer (colourLineInBody body w planes masking compression mode palette start room) ≡ Line-refused k p →
+      OneOf (andColours ofBodyLine) k p
+  pub body-colour-frame :
+      (body : List ℕ) (w h planes masking compression mode : ℕ) (palette : List ℕ) (room k p : ℕ) →
+      frameAnswer (colourFrameInBody body w h planes masking compression mode palette room) ≡ Frame-refused k p →
+      OneOf (andColours ofBodyFrame) k p
+  pub triples :
+      (s : List ℕ) (i : ℕ) (default : List ℕ) → let a = triplesOf s i default in OneOf (0 ∷ ofPicture) (a .number) (a .place)
   pub pack : (row : List ℕ) (room : ℕ) → OneOf (0 ∷ ofPacking) (packNumber (packOf row room)) 0
   pub write :
       (b : BitmapHeader) (palette frame shape : List ℕ) (room k : ℕ) → writeOf b palette frame shape room ≡ Write-refused k →

@@ -22,8 +22,8 @@ use Rattle.ilbm_spec.specs.Table.{PictureRow, tableOf, tableAnswer, tableAfter}
 use Rattle.write_form.specs.File.{pictureForm, pictureFile}
 use Rattle.write_picture.specs.declared.WriteAnswer.the-variants.{Written}
 use Rattle.write_picture.specs.Write.{writeOf, outAfter}
-use Rattle.theorem_table.specs.ByTable.{rowAt, viewBy, propertiesBy, paletteBy, extentBy, scanLineBy, frameBy, shapeLineBy, shapeFrameBy}
-use Rattle.theorem_table.specs.ByTable.{ByTable}
+use Rattle.theorem_table.specs.ByTable.{rowAt, viewBy, propertiesBy, paletteBy, extentBy, paletteTriplesBy, scanLineBy, frameBy}
+use Rattle.theorem_table.specs.ByTable.{shapeLineBy, shapeFrameBy, colourLineBy, colourFrameBy, ByTable}
 use Rattle.theorem_table.specs.Theorem.{tree-by-table}
 use Rattle.theorem_table.specs.laws.Rows.{count-rows}
 use Rattle.theorem_additions.specs.Additions.{Addition, treeAfter, fileAfter, MayAddAll, movedBy}
@@ -31,7 +31,7 @@ use Rattle.theorem_additions.specs.Statement.{movedView, movedAnswer, movedExte
 use Rattle.theorem_additions.specs.Statement.{SameAnswers}
 use Rattle.theorem_additions.specs.laws.After.{file-after}
 use Rattle.theorem_additions.specs.Demand3.{demand3}
-use Rattle.theorem_roundtrip.specs.Expected.{pictureFor, shapeFor}
+use Rattle.theorem_roundtrip.specs.Expected.{pictureFor, shapeFor, coloursFor, triplesFor}
 use Rattle.theorem_roundtrip.specs.Header.{InRange}
 use Rattle.theorem_roundtrip.specs.RoundTrip.{ReadsBack, round-trip}
 
@@ -39,8 +39,8 @@ use Rattle.theorem_roundtrip.specs.RoundTrip.{ReadsBack, round-trip}
 abbrev pub rowOf : List ℕ → List ℕ → ℕ → PictureRow
 rowOf s old i = rowAt (tableAfter (tableOf s (length old)) old) i
 
--- A scan line and a frame by a row, for a lent row of bytes or a lent frame, and with the shape for two: what is told, and the bytes left
--- there.
+-- A scan line and a frame by a row, for a lent row of bytes or a lent frame, with the shape for two, and in colours: what is told, and the
+-- bytes left there.
 abbrev pub lineByRow : List ℕ → PictureRow → ℕ → List ℕ → LineAnswer × List ℕ
 lineByRow s r start row = lineTold (scanLineBy s r start (length row)) row
 
@@ -52,6 +52,12 @@ shapeLineByRow s r start row shape = shapeLineTold (shapeLineBy s r start (lengt
 
 abbrev pub shapeFrameByRow : List ℕ → PictureRow → List ℕ → List ℕ → FrameAnswer × List ℕ × List ℕ
 shapeFrameByRow s r frame shape = shapeFrameTold (shapeFrameBy s r (length frame) (length shape)) frame shape
+
+abbrev pub colourLineByRow : List ℕ → PictureRow → List ℕ → ℕ → List ℕ → LineAnswer × List ℕ
+colourLineByRow s r default start row = lineTold (colourLineBy s r default start (length row)) row
+
+abbrev pub colourFrameByRow : List ℕ → PictureRow → List ℕ → List ℕ → FrameAnswer × List ℕ
+colourFrameByRow s r default frame = frameTold (colourFrameBy s r default (length frame)) frame
 
 -- Two files whose tables have n rows each, by which every call answers the same but for places that moved.
 pub record SameByTable (f g old : List ℕ) (move : ℕ → ℕ) (n : ℕ) : Type 0 where
@@ -68,6 +74,14 @@ pub record SameByTable (f g old : List ℕ) (move : ℕ → ℕ) (n : ℕ) : Typ
   pub shape-frames :
       (i : ℕ) → i < n → (frame shape : List ℕ) →
       shapeFrameByRow g (rowOf g old i) frame shape ≡ shapeFrameByRow f (rowOf f old i) frame shape
+  pub colour-lines :
+      (i : ℕ) → i < n → (default : List ℕ) (start : ℕ) (row : List ℕ) →
+      colourLineByRow g (rowOf g old i) default start row ≡ colourLineByRow f (rowOf f old i) default start row
+  pub colour-frames :
+      (i : ℕ) → i < n → (default frame : List ℕ) →
+      colourFrameByRow g (rowOf g old i) default frame ≡ colourFrameByRow f (rowOf f old i) default frame
+  pub triples :
+      (i : ℕ) → i < n → (default : List ℕ) → paletteTriplesBy g (rowOf g old i) default ≡ paletteTriplesBy f (rowOf f old i) default
 
 module _ (f g old : List ℕ) (move : ℕ → ℕ) (n : ℕ) (same : SameAnswers f g move) (told : tableAnswer (tableOf f (length old)) ≡ Pictures n)
     (a : ByTable f (tableAfter (tableOf f (length old)) old) n) (b : ByTable g (tableAfter (tableOf g (length old)) old) n) where
@@ -93,6 +107,15 @@ module _ (f g old : List ℕ) (move : ℕ → ℕ) (n : ℕ) (same : SameAnswers
             let told : Read Shaped → FrameAnswer × List ℕ × List ℕ = λ x. shapeFrameTold x frame shape in
             ap told (b .shape-frames i h (length frame) (length shape)) ∙ same .shape-frames i frame shape ∙
             sym (ap told (a .shape-frames i h (length frame) (length shape)));
+        colour-lines = λ i h default start row.
+            let told : Read (List ℕ) → LineAnswer × List ℕ = λ x. lineTold x row in
+            ap told (b .colour-lines i h default start (length row)) ∙ same .colour-lines i default start row ∙
+            sym (ap told (a .colour-lines i h default start (length row)));
+        colour-frames = λ i h default frame.
+            let told : Read (List ℕ) → FrameAnswer × List ℕ = λ x. frameTold x frame in
+            ap told (b .colour-frames i h default (length frame)) ∙ same .colour-frames i default frame ∙
+            sym (ap told (a .colour-frames i h default (length frame)));
+        triples = λ i h default. b .triples i h default ∙ same .triples i default ∙ sym (a .triples i h default);
       }
 
 -- Demand 3 by the table: of an accepted file and whatever is added.
@@ -107,13 +130,15 @@ unchanged f b c e adds may old n told =
     (tree-by-table f c (was .0) (was .1) old n told)
     (tree-by-table (fileAfter adds c f) (treeAfter adds c) (now .0) (now .1) old n (same .table-answers (length old) ∙ told))
 
--- A written file by its table: one row, and by it the picture, its palette, its frame and its shape.
+-- A written file by its table: one row, and by it the picture, its palette with the triples, its frame, its shape and its colours.
 pub record ReadsBackByTable (s old : List ℕ) (b : BitmapHeader) (palette frame shape : List ℕ) : Type 0 where
   pub count : tableAnswer (tableOf s (length old)) ≡ Pictures 1
   pub picture : propertiesBy s (rowOf s old 0) ≡ Shown (pictureFor b palette)
   pub paletteBack : paletteBy s (rowOf s old 0) [] ≡ record { number = 0; place = 0; colours = palette }
   pub frameBack : frameBy s (rowOf s old 0) (b .w * b .h) ≡ found (frame, 0)
   pub shapeBack : shapeFrameBy s (rowOf s old 0) (b .w * b .h) (b .w * b .h) ≡ shapeFor b frame shape
+  pub coloursBack : colourFrameBy s (rowOf s old 0) [] (3 * (b .w * b .h)) ≡ coloursFor palette frame
+  pub triplesBack : paletteTriplesBy s (rowOf s old 0) [] ≡ triplesFor palette
 
 back-by-table :
     (s old : List ℕ) (b : BitmapHeader) (palette frame shape : List ℕ) → 30 ≤ length old → ReadsBack s b palette frame shape →
@@ -129,6 +154,8 @@ back-by-table s old b palette frame shape room r =
       paletteBack = t .palettes 0 (omega arith) [] ∙ r .paletteBack;
       frameBack = t .frames 0 (omega arith) (b .w * b .h) ∙ r .frameBack;
       shapeBack = t .shape-frames 0 (omega arith) (b .w * b .h) (b .w * b .h) ∙ r .shapeBack;
+      coloursBack = t .colour-frames 0 (omega arith) [] (3 * (b .w * b .h)) ∙ r .coloursBack;
+      triplesBack = t .triples 0 (omega arith) [] ∙ r .triplesBack;
     }
 
 -- The round trip by the table: of what the writer leaves, with a lent table that has room for one picture.

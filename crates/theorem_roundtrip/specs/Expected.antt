@@ -9,6 +9,8 @@ use Rattle.ilbm_spec.specs.declared.BitmapHeader.{BitmapHeader}
 use Rattle.ilbm_spec.specs.declared.Picture.{Picture}
 use Rattle.ilbm_spec.specs.Rows.{Read}
 use Rattle.ilbm_spec.specs.Shapes.{shapeBy, Shaped, shaped, shapeAsked}
+use Rattle.ilbm_spec.specs.Colours.{entryAt, eachColour}
+use Rattle.ilbm_spec.specs.Triples.{triplesFrom, Triples}
 use Rattle.theorem_roundtrip.specs.Header.{withoutPad}
 
 -- FORM, BMHD and BODY, and CMAP if there is a palette
@@ -42,3 +44,11 @@ pictureFor b palette =
 -- rest what the masking says of the frame
 abbrev pub shapeFor : BitmapHeader → List ℕ → List ℕ → Read Shaped
 shapeFor b frame shape = shapeAsked (b .masking) (found (shaped frame (shapeBy (b .masking) (b .transparent) frame shape), 0))
+
+-- the frame call in colours: there is no CAMG, so the pixels "go through their palette"
+abbrev pub coloursFor : List ℕ → List ℕ → Read (List ℕ)
+coloursFor palette frame = found (eachColour (entryAt palette) frame, 0)
+
+-- the triples: "its palette's first 64"
+abbrev pub triplesFor : List ℕ → Triples
+triplesFor palette = record { number = 0; place = 0; triples = triplesFrom 0 64 (entryAt palette) }

@@ -1,14 +1,16 @@
 -- 01: "Reading back, with an empty default palette, gives the same fields but pad1, the same palette and frame." 02, Ask 4: "what it
--- writes reads back", the shape too. For every header, palette, frame, shape and buffer that the writer does not refuse, of the file that
--- it leaves in the buffer.
+-- writes reads back", the shape too. Ask 5: in colours, and the palette as triples. For every header, palette, frame, shape and buffer
+-- that the writer does not refuse, of the file that it leaves in the buffer.
 use Prim.Native.Nat.{ℕ, zero, suc, _-_, _*_}
 use mathlib.Core.Path.{_≡_, refl, ap, _∙_}
+use mathlib.Core.Bool.{false}
 use mathlib.Core.List.{List, [], append-nil}
 use lib.ListN.{length, take, drop}
 use lib.Seq.{take-at}
 use borrow.Author.Tests.{eq-eqb}
 use native.Mathlib.Nat.{mul-comm, zero-add}
 use native.Mathlib.Omega.{arith}
+use Rattle.iff_chunk.specs.Chunks.{word}
 use Rattle.iff_tree.specs.declared.Verdict.the-variants.{Accepted}
 use Rattle.iff_tree.specs.Judge.{found, readFile, checkOf, refused}
 use Rattle.iff_grammar.specs.Grammar.{ChunkFile}
@@ -19,12 +21,16 @@ use Rattle.ilbm_spec.specs.Pictures.{Viewed, viewOf, pickContent, pictureAnswer
 use Rattle.ilbm_spec.specs.Palette.{answerIn, paletteAnswer}
 use Rattle.ilbm_spec.specs.Rows.{rowLength, rowsInLine, Pixels, linesWith, frameRead, frameOf}
 use Rattle.ilbm_spec.specs.Shapes.{shapeFrameRead, shapeFrameOf}
+use Rattle.ilbm_spec.specs.Colours.{holds, isHalfBright, numberColour, entryAt, eachColour, viewMode, colourFrameOf}
+use Rattle.ilbm_spec.specs.Triples.{triplesIn, triplesOf}
+use Rattle.ilbm_spec.specs.laws.Coloured.{readAs}
+use Rattle.ilbm_spec.specs.laws.Colours.{plainColour, colours-of-numbers}
 use Rattle.write_picture.specs.declared.WriteAnswer.{WriteAnswer}
 use Rattle.write_picture.specs.declared.WriteAnswer.the-variants.{Written}
 use Rattle.write_body.specs.Body.{shapeWidth, bodyLines, bodyBytes}
 use Rattle.write_form.specs.File.{pictureForm, pictureFile}
 use Rattle.write_picture.specs.Write.{writeOf, outAfter}
-use Rattle.theorem_roundtrip.specs.Expected.{chunksFor, pictureFor, shapeFor}
+use Rattle.theorem_roundtrip.specs.Expected.{chunksFor, pictureFor, shapeFor, coloursFor, triplesFor}
 use Rattle.theorem_roundtrip.specs.Header.{InRange, withoutPad}
 use Rattle.theorem_roundtrip.specs.laws.Header.{header-back}
 use Rattle.theorem_roundtrip.specs.laws.Lines.{Makes, Drawn, lines-back}
@@ -44,6 +50,8 @@ pub record ReadsBack (s : List ℕ) (b : BitmapHeader) (palette frame shape : Li
   pub paletteBack : paletteAnswer s 0 [] ≡ record { number = 0; place = 0; colours = palette }
   pub frameBack : frameOf s 0 (b .w * b .h) ≡ found (frame, 0)
   pub shapeBack : shapeFrameOf s 0 (b .w * b .h) (b .w * b .h) ≡ shapeFor b frame shape
+  pub coloursBack : colourFrameOf s 0 [] (3 * (b .w * b .h)) ≡ coloursFor palette frame
+  pub triplesBack : triplesOf s 0 [] ≡ triplesFor palette
 
 same-lines :
     (b : BitmapHeader) (frame shape : List ℕ) (lines : ℕ) →
@@ -106,6 +114,27 @@ module _
       let bits = lines-read _ _ (shape-made (withoutPad b)) in
       rw (header-back b range, eq-eqb (b .w * b .h) (b .w * b .h) refl, colours, bits, none-left)
 
+  -- no bit of CAMG's number is set
+  not-held : holds (viewMode (contentFor b palette frame shape)) ≡ false
+  unfolding holds word
+  not-held = refl
+
+  through-palette : plainColour (contentFor b palette frame shape) [] ≡ entryAt palette
+  unfolding isHalfBright numberColour word
+  through-palette = rw (palette-answered b palette frame shape)
+
+  frame-back : frameOf file 0 (b .w * b .h) ≡ found (frame, 0)
+  frame-back = ap (λ (v : Viewed). frameRead v (b .w * b .h)) view-back ∙ frame-read
+
+  colours-back : colourFrameOf file 0 [] (3 * (b .w * b .h)) ≡ coloursFor palette frame
+  colours-back =
+      let each = plainColour (contentFor b palette frame shape) [] in
+      colours-of-numbers .plain-frame file 0 (contentFor b palette frame shape) view-back not-held [] (b .w * b .h) ∙
+      ap (readAs (eachColour each)) frame-back ∙ rw through-palette
+
+  triples-back : triplesOf file 0 [] ≡ triplesFor palette
+  triples-back = ap (λ (v : Viewed). triplesIn v []) view-back ∙ rw through-palette
+
   file-back : ReadsBack file b palette frame shape
   file-back =
       record {
@@ -116,8 +145,10 @@ module _
         others = λ i. no-more i;
         picture = ap pictureAnswer view-back ∙ ap Shown (picture-answered b palette frame shape range);
         paletteBack = ap (λ (v : Viewed). answerIn v []) view-back ∙ rw (palette-answered b palette frame shape);
-        frameBack = ap (λ (v : Viewed). frameRead v (b .w * b .h)) view-back ∙ frame-read;
+        frameBack = frame-back;
         shapeBack = ap (λ (v : Viewed). shapeFrameRead v (b .w * b .h) (b .w * b .h)) view-back ∙ shape-read;
+        coloursBack = colours-back;
+        triplesBack = triples-back;
       }
 
 -- What the writer leaves in the buffer, as many bytes as it told, reads as the picture that it was given.

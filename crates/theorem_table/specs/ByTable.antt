@@ -3,7 +3,7 @@ use Prim.Native.Nat.{ℕ, _+_, _-_, _*_, _<_, _≤_}
 use mathlib.Core.Path.{_≡_}
 use mathlib.Core.List.{List, [], _∷_}
 use lib.Dec.{eqb}
-use lib.ListN.{length, getD}
+use lib.ListN.{length, getD, replicate}
 use lib.Seq.{slice}
 use Rattle.iff_name.specs.Name.{pick}
 use Rattle.iff_chunk.specs.Chunks.{word}
@@ -19,6 +19,8 @@ use Rattle.ilbm_spec.specs.Pictures.{u16, headerIn, hotSpotIn, destinationIn, V
 use Rattle.ilbm_spec.specs.Palette.{Answer, paletteAnswer, Extent, paletteExtent}
 use Rattle.ilbm_spec.specs.Rows.{Read, lineInBody, frameInBody, lineOf, frameOf}
 use Rattle.ilbm_spec.specs.Shapes.{Shaped, shapeLineInBody, shapeFrameInBody, shapeLineOf, shapeFrameOf}
+use Rattle.ilbm_spec.specs.Colours.{colourLineInBody, colourFrameInBody, colourLineOf, colourFrameOf}
+use Rattle.ilbm_spec.specs.Triples.{triplesBy, Triples, triplesOf}
 use Rattle.ilbm_spec.specs.Table.{PropertyRow, BodyRow, PictureRow, tableOf}
 
 -- A property's four numbers, from the k-th of a row on.
@@ -56,6 +58,14 @@ bodyBy s r = slice (r .body .from) (r .body .to) s
 abbrev pub headerBy : List ℕ → PictureRow → BitmapHeader
 headerBy s r = headerIn (dataBy s (r .bmhd))
 
+-- The number that CAMG holds, 0 where none counts.
+abbrev pub modeBy : List ℕ → PictureRow → ℕ
+modeBy s r = word (dataBy s (r .camg)) 0
+
+-- The colours of the palette: the CMAP's part of the file, or the caller's default where its origin is 0.
+abbrev pub coloursBy : List ℕ → PictureRow → List ℕ → List ℕ
+coloursBy s r default = pick (eqb (r .cmap .origin) 0) default (dataBy s (r .cmap))
+
 -- what is told by a row, or its refusal
 abbrev pub unlessRefused : {A : Type 0} → PictureRow → A → (ℕ → ℕ → A) → A
 unlessRefused r shown refusal = pick (eqb (r .answer) 0) shown (refusal (r .answer) 0)
@@ -77,21 +87,27 @@ pictureBy s r =
       «destination_from» = originBy (r .dest);
       sprite = u16 (dataBy s (r .sprt)) 0;
       «sprite_from» = originBy (r .sprt);
-      «view_mode» = word (dataBy s (r .camg)) 0;
+      «view_mode» = modeBy s r;
       «view_mode_from» = originBy (r .camg);
     }
 
 abbrev pub propertiesBy : List ℕ → PictureRow → PictureAnswer
 propertiesBy s r = unlessRefused r (Shown (pictureBy s r)) Refused
 
--- The palette: the CMAP's part of the file, or the caller's default where its origin is 0; and where it lies.
+-- The palette, where it lies, and its triples.
 abbrev pub paletteBy : List ℕ → PictureRow → List ℕ → Answer
 paletteBy s r default =
-    unlessRefused r (record { number = 0; place = 0; colours = pick (eqb (r .cmap .origin) 0) default (dataBy s (r .cmap)) })
+    unlessRefused r (record { number = 0; place = 0; colours = coloursBy s r default })
     (λ k p. record { number = k; place = p; colours = [] })
 
 abbrev pub extentBy : PictureRow → Extent
 extentBy r = record { from = r .cmap .from; to = r .cmap .to }
+
+abbrev pub paletteTriplesBy : List ℕ → PictureRow → List ℕ → Triples
+paletteTriplesBy s r default =
+    unlessRefused r
+    (record { number = 0; place = 0; triples = triplesBy (modeBy s r) (headerBy s r .planes) (coloursBy s r default) })
+    (λ k p. record { number = k; place = p; triples = replicate 64 (0 ∷ 0 ∷ 0 ∷ []) })
 
 -- Rows: the row's refusal, 25 with no BODY, and otherwise what is read of the BODY's part of the file by the header's fields.
 abbrev pub rowsBy : {A : Type 0} → PictureRow → Read A → Read A
@@ -119,6 +135,19 @@ shapeFrameBy s r room shapeRoom =
     let b : BitmapHeader = headerBy s r in
     rowsBy r
     (shapeFrameInBody (bodyBy s r) (b .w) (b .h) (b .planes) (b .masking) (b .compression) (b .transparent) room shapeRoom)
+
+-- The same in colours.
+abbrev pub colourLineBy : List ℕ → PictureRow → List ℕ → ℕ → ℕ → Read (List ℕ)
+colourLineBy s r default start room =
+    let b : BitmapHeader = headerBy s r in
+    rowsBy r
+    (colourLineInBody (bodyBy s r) (b .w) (b .planes) (b .masking) (b .compression) (modeBy s r) (coloursBy s r default) start room)
+
+abbrev pub colourFrameBy : List ℕ → PictureRow → List ℕ → ℕ → Read (List ℕ)
+colourFrameBy s r default room =
+    let b : BitmapHeader = headerBy s r in
+    rowsBy r
+    (colourFrameInBody (bodyBy s r) (b .w) (b .h) (b .planes) (b .masking) (b .compression) (modeBy s r) (coloursBy s r default) room)
 
 -- All that the picture's calls look at, found again: each chunk with its place, which is 8 before its data.
 abbrev pub chunkBy : List ℕ → ℕ → ℕ → Located
@@ -162,9 +191,9 @@ pub record Parts (s : List ℕ) (r : PictureRow) : Type 0 where
   pub body : Part s (r .body .from) (r .body .to)
 
 -- A table that tells so many pictures of the file s gives of each, with the bytes of the file, what the calls by its number tell: all that
--- they look at, and so the properties, the palette and where it lies; with the calls on a BODY by itself each scan line and the frame, with
--- their shapes too; each refusal too. There are no more pictures. All parts that it tells lie in the file, and the BMHD of a shown picture
--- has its 20 bytes.
+-- they look at, and so the properties, the palette, where it lies and its triples; with the calls on a BODY by itself each scan line and
+-- the frame, with their shapes too and in colours; each refusal too. There are no more pictures. All parts that it tells lie in the file,
+-- and the BMHD of a shown picture has its 20 bytes.
 pub record ByTable (s table : List ℕ) (count : ℕ) : Type 0 where
   pub views : (i : ℕ) → i < count → viewBy s (rowAt table i) ≡ viewOf s i
   pub properties : (i : ℕ) → i < count → propertiesBy s (rowAt table i) ≡ pictureOf s i
@@ -177,6 +206,12 @@ pub record ByTable (s table : List ℕ) (count : ℕ) : Type 0 where
       shapeLineBy s (rowAt table i) start room shapeRoom ≡ shapeLineOf s i start room shapeRoom
   pub shape-frames :
       (i : ℕ) → i < count → (room shapeRoom : ℕ) → shapeFrameBy s (rowAt table i) room shapeRoom ≡ shapeFrameOf s i room shapeRoom
+  pub colour-lines :
+      (i : ℕ) → i < count → (default : List ℕ) (start room : ℕ) →
+      colourLineBy s (rowAt table i) default start room ≡ colourLineOf s i default start room
+  pub colour-frames :
+      (i : ℕ) → i < count → (default : List ℕ) (room : ℕ) → colourFrameBy s (rowAt table i) default room ≡ colourFrameOf s i default room
+  pub triples : (i : ℕ) → i < count → (default : List ℕ) → paletteTriplesBy s (rowAt table i) default ≡ triplesOf s i default
   pub none : (i : ℕ) → count ≤ i → viewOf s i ≡ refused 20 0
   pub parts : (i : ℕ) → i < count → Parts s (rowAt table i)
   pub headers : (i : ℕ) → i < count → rowAt table i .answer ≡ 0 → length (dataBy s (rowAt table i .bmhd)) ≡ 20

@@ -18,13 +18,17 @@ use Rattle.ilbm_spec.specs.Pictures.{Viewed, judged, viewIn, viewOf, pictureAns
 use Rattle.ilbm_spec.specs.Palette.{answerIn, extentIn}
 use Rattle.ilbm_spec.specs.Rows.{lineRead, frameRead}
 use Rattle.ilbm_spec.specs.Shapes.{shapeLineRead, shapeFrameRead}
+use Rattle.ilbm_spec.specs.Colours.{colourLineRead, colourFrameRead}
+use Rattle.ilbm_spec.specs.Triples.{triplesIn}
 use Rattle.ilbm_spec.specs.Table.{PictureRow, pictureRow, pictureRows, rowsFor, tableOf, tableNumbers, tableAnswer, tableAfter}
-use Rattle.theorem_table.specs.ByTable.{rowAt, dataBy, viewBy, propertiesBy, paletteBy, extentBy, scanLineBy, frameBy, shapeLineBy}
-use Rattle.theorem_table.specs.ByTable.{shapeFrameBy, Parts, ByTable, RefusedBoth}
+use Rattle.theorem_table.specs.ByTable.{rowAt, dataBy, viewBy, propertiesBy, paletteBy, extentBy, paletteTriplesBy, scanLineBy}
+use Rattle.theorem_table.specs.ByTable.{frameBy}
+use Rattle.theorem_table.specs.ByTable.{shapeLineBy, shapeFrameBy, colourLineBy, colourFrameBy, Parts, ByTable, RefusedBoth}
 use Rattle.theorem_table.specs.laws.Lies.{ContentLies, ContentsLie, file-lies}
 use Rattle.theorem_table.specs.laws.Rows.{count-rows, row-shows, no-more}
 use Rattle.theorem_table.specs.laws.Told.{parts-told, header-told, view-told, properties-told, palette-told, extent-told}
-use Rattle.theorem_table.specs.laws.Told.{line-told, frame-told, shape-line-told, shape-frame-told}
+use Rattle.theorem_table.specs.laws.Told.{line-told, frame-told, shape-line-told, shape-frame-told, triples-told}
+use Rattle.theorem_table.specs.laws.Told.{colour-line-told, colour-frame-told}
 
 -- What a row and the file tell is what the calls tell of the picture that is seen.
 record Tells (s : List ℕ) (r : PictureRow) (v : Viewed) : Type 0 where
@@ -36,6 +40,9 @@ record Tells (s : List ℕ) (r : PictureRow) (v : Viewed) : Type 0 where
   frame : (room : ℕ) → frameBy s r room ≡ frameRead v room
   shape-line : (start room shapeRoom : ℕ) → shapeLineBy s r start room shapeRoom ≡ shapeLineRead v start room shapeRoom
   shape-frame : (room shapeRoom : ℕ) → shapeFrameBy s r room shapeRoom ≡ shapeFrameRead v room shapeRoom
+  colour-line : (default : List ℕ) (start room : ℕ) → colourLineBy s r default start room ≡ colourLineRead v default start room
+  colour-frame : (default : List ℕ) (room : ℕ) → colourFrameBy s r default room ≡ colourFrameRead v default room
+  triples : (default : List ℕ) → paletteTriplesBy s r default ≡ triplesIn v default
   parts : Parts s r
   header : r .answer ≡ 0 → length (dataBy s (r .bmhd)) ≡ 20
 
@@ -50,6 +57,9 @@ row-tells s c l =
       frame = frame-told s c l;
       shape-line = shape-line-told s c l;
       shape-frame = shape-frame-told s c l;
+      colour-line = colour-line-told s c l;
+      colour-frame = colour-frame-told s c l;
+      triples = triples-told s c l;
       parts = parts-told s c l;
       header = header-told s c l;
     }
@@ -75,6 +85,9 @@ module _ (s rest : List ℕ) (c : Chunk) (e : readFile s ≡ found c) (l : Conte
         frames = λ i h. one i h .frame;
         shape-lines = λ i h. one i h .shape-line;
         shape-frames = λ i h. one i h .shape-frame;
+        colour-lines = λ i h. one i h .colour-line;
+        colour-frames = λ i h. one i h .colour-frame;
+        triples = λ i h. one i h .triples;
         none = λ i h. let count = count-rows cs in rw e (no-more cs i (omega arith));
         parts = λ i h. one i h .parts;
         headers = λ i h. one i h .header;

@@ -1,5 +1,7 @@
 -- The fields are judged first, and a refusal of theirs leaves the row; if they pass, `sound_line` has the answer.
+use lib.ListN.{length}
 use borrow.Author.Needs.{needs}
+use Rattle.ilbm_spec.specs.Rows.{bodyLine}
 use Rattle.ilbm_body_rows.proofs.Fields.{few-planes, line-unfit, line-fit}
 use Rattle.ilbm_body_rows.proofs.line_in_body.Statement.{statement}
 use Rattle.ilbm_body_rows.proofs.line_in_body.Tie as tie
@@ -10,8 +12,8 @@ judge-fields-requires c κs = search needs
 returns : tie.Need-returns
 returns c =
     let s = c .before .before .before .before .args in
-    line-unfit (s .body .now) (s .w) (s .planes) (s .masking) (s .compression) (s .start) (s .row .now) _
-    (c .before .judge-fields .ensures) (c .if1 .taken)
+    let rows = bodyLine (s .body .now) (s .w) (s .planes) (s .masking) (s .compression) (s .start) (length (s .row .now)) in
+    line-unfit _ _ (c .before .judge-fields .ensures) rows (s .row .now) (c .if1 .taken)
 
 sound-line-requires : tie.Need-sound-line-requires
 sound-line-requires c κs = search (few-planes, needs)
@@ -24,8 +26,8 @@ returns-2 c =
     let read = c .before .before in
     let passed = read .before .before in
     let s = passed .before .before .before .before .args in
-    line-fit (s .body .now) (s .w) (s .planes) (s .masking) (s .compression) (s .start) (s .row .now) _
-    (passed .before .judge-fields .ensures) _ _ (passed .if1 .left) (read .sound-line .ensures)
+    let rows = bodyLine (s .body .now) (s .w) (s .planes) (s .masking) (s .compression) (s .start) (length (s .row .now)) in
+    line-fit _ _ (passed .before .judge-fields .ensures) rows (s .row .now) _ _ (passed .if1 .left) (read .sound-line .ensures)
 
 pub line-in-body-spec : {M : Type 1} → statement M
 line-in-body-spec = tie.close (tie.spec judge-fields-requires returns sound-line-requires same-length returns-2)

@@ -1,5 +1,8 @@
 -- A frame of another length is 28; otherwise what `scan_frame` answers is told, with the count of what is left.
+use Prim.Native.Nat.{_*_}
+use lib.ListN.{length}
 use borrow.Author.Needs.{needs}
+use Rattle.ilbm_spec.specs.Rows.{rowsInLine, linesBy}
 use Rattle.ilbm_body_rows.proofs.Laws.{frame-28, frame-left, frame-refused, pixels-fit}
 use Rattle.ilbm_body_rows.proofs.sound_frame.Statement.{statement}
 use Rattle.ilbm_body_rows.proofs.sound_frame.Tie as tie
@@ -10,7 +13,8 @@ mul-if1 c = search (pixels-fit, needs)
 returns : tie.Need-returns
 returns c =
     let s = c .before .before .before .args in
-    frame-28 _ (s .w) (s .h) (s .planes) (s .masking) (s .compression) (s .frame .now) (c .if1 .taken)
+    let lines = linesBy (s .compression) (s .w) (s .planes) (rowsInLine (s .planes) (s .masking)) (s .body .now) (s .h) 0 in
+    frame-28 (length (s .body .now)) (s .w * s .h) lines (s .frame .now) (c .if1 .taken)
 
 scan-frame-requires : tie.Need-scan-frame-requires
 scan-frame-requires c κs = search needs
@@ -32,8 +36,9 @@ returns-2 c =
     let scanned = c .before .before .before .before .before .before in
     let b = scanned .before .before in
     let s = b .before .before .before .args in
-    frame-left _ (s .w) (s .h) (s .planes) (s .masking) (s .compression) (s .frame .now) (b .if1 .left) _ _ (scanned .scan-frame .ensures) _ _ (c .before .before .scanned .given .1)
-    (c .left-over .ensures)
+    let lines = linesBy (s .compression) (s .w) (s .planes) (rowsInLine (s .planes) (s .masking)) (s .body .now) (s .h) 0 in
+    frame-left (length (s .body .now)) (s .w * s .h) lines (s .frame .now) (b .if1 .left) _ _ (scanned .scan-frame .ensures) _ _
+    (c .before .before .scanned .given .1) (c .left-over .ensures)
 
 same-length-2 : tie.Need-same-length-2
 same-length-2 c = search needs
@@ -43,7 +48,9 @@ returns-3 c =
     let scanned = c .before .before .before .before .before in
     let b = scanned .before .before in
     let s = b .before .before .before .args in
-    frame-refused _ (s .w) (s .h) (s .planes) (s .masking) (s .compression) (s .frame .now) (b .if1 .left) _ _ (scanned .scan-frame .ensures) _ _ (c .before .scanned2 .given .1)
+    let lines = linesBy (s .compression) (s .w) (s .planes) (rowsInLine (s .planes) (s .masking)) (s .body .now) (s .h) 0 in
+    frame-refused (length (s .body .now)) (s .w * s .h) lines (s .frame .now) (b .if1 .left) _ _ (scanned .scan-frame .ensures) _ _
+    (c .before .scanned2 .given .1)
 
 pub sound-frame-spec : {M : Type 1} → statement M
 sound-frame-spec =

@@ -13,17 +13,18 @@ destination-of-requires c κs = search (dest-right, needs)
 word-of-requires : tie.Need-word-of-requires
 word-of-requires c κs = search (sprt-right, needs)
 
-long-of-requires : tie.Need-long-of-requires
-long-of-requires c κs = search (camg-right, needs)
+view-mode-requires : tie.Need-view-mode-requires
+view-mode-requires c κs = search (camg-right, needs)
 
 returns : tie.Need-returns
 returns c =
     let word = c .before in
     let destination = word .before in
     let grab = destination .before in
-    picture-answered _ _ _ _ _ _ _ (grab .grab-of .ensures) (destination .destination-of .ensures) (word .word-of .ensures) (c .long-of .ensures)
+    picture-answered _ _ _ _ _ _ _ (grab .grab-of .ensures) (destination .destination-of .ensures) (word .word-of .ensures)
+    (c .view-mode .ensures)
 
 pub picture-from-spec : {M : Type 1} → statement M
 picture-from-spec =
     tie.close
-    (tie.spec grab-of-requires destination-of-requires word-of-requires long-of-requires returns)
+    (tie.spec grab-of-requires destination-of-requires word-of-requires view-mode-requires returns)

@@ -11,16 +11,17 @@ use borrow.Author.Tests.{ne-eqb}
 use Rattle.iff_name.specs.Name.{pick}
 use Rattle.iff_chunk.specs.Chunks.{Chunk}
 use Rattle.iff_tree.specs.Judge.{Found, found, readFile, refused}
-use Rattle.ilbm_spec.specs.declared.BitmapHeader.{BitmapHeader}
 use Rattle.ilbm_spec.specs.declared.TableAnswer.the-variants.{Pictures}
 use Rattle.ilbm_spec.specs.Names.{ILBM}
 use Rattle.ilbm_spec.specs.Contents.{Located, Property, own, shared, absent, Content, contentsOf, movedLocated, movedProperty}
 use Rattle.ilbm_spec.specs.Contents.{movedBodies, movedContent}
-use Rattle.ilbm_spec.specs.Pictures.{dataOf, counts, headerIn, wrongSize, pictureRefusal, Viewed, judged, pickContent, viewIn, viewOf}
+use Rattle.ilbm_spec.specs.Pictures.{dataOf, counts, wrongSize, pictureRefusal, Viewed, judged, pickContent, viewIn, viewOf}
 use Rattle.ilbm_spec.specs.Pictures.{originOf, pictureFrom, pictureAnswer, paletteFrom}
 use Rattle.ilbm_spec.specs.Palette.{answerIn, extentOf, extentFrom, extentIn}
-use Rattle.ilbm_spec.specs.Rows.{Read, onBody, askRows, lineRead, frameRead, lineOf, frameOf}
-use Rattle.ilbm_spec.specs.Shapes.{Shaped, shapeLineRead, shapeFrameRead, shapeLineOf, shapeFrameOf}
+use Rattle.ilbm_spec.specs.Rows.{Read, onBody, askBody, lineOf, frameOf}
+use Rattle.ilbm_spec.specs.Shapes.{Shaped, shapeLineOf, shapeFrameOf}
+use Rattle.ilbm_spec.specs.Colours.{colourLineOf, colourFrameOf}
+use Rattle.ilbm_spec.specs.Triples.{triplesIn}
 use Rattle.ilbm_spec.specs.laws.Moved.{mapContents}
 use Rattle.ilbm_spec.specs.Table.{propertyRow, bodyRow, PictureRow, rowWith, withoutParts, pictureRow, pictureRows}
 use Rattle.ilbm_spec.specs.Table.{rowsFor, tableOf, tableAnswer}
@@ -95,16 +96,25 @@ module _ (move : ℕ → ℕ) where
   extent-moved (found c) = extent-from (c .cmap)
   extent-moved (refused k p) = refl
 
-  on-moved : {A : Type 0} (bs : List Located) (rows : List ℕ → Read A) → onBody (movedBodies move bs) rows ≡ onBody bs rows
-  unfolding movedBodies
-  on-moved [] rows = refl
-  on-moved (b ∷ bs) rows = refl
+  triples-moved : (v : Viewed) (default : List ℕ) → triplesIn (movedView move v) default ≡ triplesIn v default
+  triples-moved (found c) default = rw (data-moved (c .bmhd), data-moved (c .camg), palette-from (c .cmap) default)
+  triples-moved (refused k p) default = refl
 
-  rows-moved : {A : Type 0} (v : Viewed) (rows : BitmapHeader → List ℕ → Read A) → askRows (movedView move v) rows ≡ askRows v rows
-  rows-moved (found c) rows =
-      on-moved (c .bodies) (λ body. rows (headerIn (dataOf (movedProperty move (c .bmhd)))) body) ∙
-      ap (λ (d : List ℕ). onBody (c .bodies) (λ body. rows (headerIn d) body)) (data-moved (c .bmhd))
-  rows-moved (refused k p) rows = refl
+  on-moved :
+      {A : Type 0} (bs : List Located) (rows moved : List ℕ → Read A) → ((body : List ℕ) → moved body ≡ rows body) →
+      onBody (movedBodies move bs) moved ≡ onBody bs rows
+  unfolding movedBodies
+  on-moved [] rows moved e = refl
+  on-moved (b ∷ bs) rows moved e = e (b .content)
+
+  -- rows that look at no place
+  abbrev Unmoved : {A : Type 0} → (Content → List ℕ → Read A) → Type 0
+  Unmoved rows = (c : Content) (body : List ℕ) → rows (movedContent move c) body ≡ rows c body
+
+  rows-moved :
+      {A : Type 0} (v : Viewed) (rows : Content → List ℕ → Read A) → Unmoved rows → askBody (movedView move v) rows ≡ askBody v rows
+  rows-moved (found c) rows e = on-moved (c .bodies) (rows c) (rows (movedContent move c)) (e c)
+  rows-moved (refused k p) rows e = refl
 
   -- the row of a picture: each part is where its chunk is
   property-row : (q : Property) → propertyRow (movedProperty move q) ≡ movedPropertyRow move (propertyRow q)
@@ -182,6 +192,9 @@ module _ (move : ℕ → ℕ) where
     frames = λ i frame. ap (λ (x : Read (List ℕ)). frameTold x frame) (whole i (length frame));
     shape-lines = λ i start row shape. ap (λ (x : Read Shaped). shapeLineTold x row shape) (shape-line i start (length row) (length shape));
     shape-frames = λ i frame shape. ap (λ (x : Read Shaped). shapeFrameTold x frame shape) (shape-whole i (length frame) (length shape));
+    colour-lines = λ i default start row. ap (λ (x : Read (List ℕ)). lineTold x row) (colour-line i default start (length row));
+    colour-frames = λ i default frame. ap (λ (x : Read (List ℕ)). frameTold x frame) (colour-whole i default (length frame));
+    triples = λ i default. ap (λ (v : Viewed). triplesIn v default) (view i) ∙ triples-moved (viewOf f i) default;
     tables = table;
     table-answers = λ room. ap tableAnswer (table room) ∙ answer-moved (tableOf f room);
   }
@@ -193,18 +206,29 @@ module _ (move : ℕ → ℕ) where
           ∙ pick-moved (contentsOf c) i
           ∙ ap (λ (r : Found Chunk). movedView move (viewIn r i)) (sym ef)
 
+      asked :
+          {A : Type 0} (rows : Content → List ℕ → Read A) → Unmoved rows → (i : ℕ) → askBody (viewOf g i) rows ≡ askBody (viewOf f i) rows
+      asked rows e i = ap (λ (v : Viewed). askBody v rows) (view i) ∙ rows-moved (viewOf f i) rows e
+
       line : (i start room : ℕ) → lineOf g i start room ≡ lineOf f i start room
-      line i start room = ap (λ (v : Viewed). lineRead v start room) (view i) ∙ rows-moved (viewOf f i) _
+      line i start room = asked _ (λ c body. rw (data-moved (c .bmhd))) i
 
       whole : (i room : ℕ) → frameOf g i room ≡ frameOf f i room
-      whole i room = ap (λ (v : Viewed). frameRead v room) (view i) ∙ rows-moved (viewOf f i) _
+      whole i room = asked _ (λ c body. rw (data-moved (c .bmhd))) i
 
       shape-line : (i start room shapeRoom : ℕ) → shapeLineOf g i start room shapeRoom ≡ shapeLineOf f i start room shapeRoom
-      shape-line i start room shapeRoom =
-          ap (λ (v : Viewed). shapeLineRead v start room shapeRoom) (view i) ∙ rows-moved (viewOf f i) _
+      shape-line i start room shapeRoom = asked _ (λ c body. rw (data-moved (c .bmhd))) i
 
       shape-whole : (i room shapeRoom : ℕ) → shapeFrameOf g i room shapeRoom ≡ shapeFrameOf f i room shapeRoom
-      shape-whole i room shapeRoom = ap (λ (v : Viewed). shapeFrameRead v room shapeRoom) (view i) ∙ rows-moved (viewOf f i) _
+      shape-whole i room shapeRoom = asked _ (λ c body. rw (data-moved (c .bmhd))) i
+
+      colour-line : (i : ℕ) (default : List ℕ) (start room : ℕ) → colourLineOf g i default start room ≡ colourLineOf f i default start room
+      colour-line i default start room =
+          asked _ (λ c body. rw (data-moved (c .bmhd), data-moved (c .camg), palette-from (c .cmap) default)) i
+
+      colour-whole : (i : ℕ) (default : List ℕ) (room : ℕ) → colourFrameOf g i default room ≡ colourFrameOf f i default room
+      colour-whole i default room =
+          asked _ (λ c body. rw (data-moved (c .bmhd), data-moved (c .camg), palette-from (c .cmap) default)) i
 
       table : (room : ℕ) → tableOf g room ≡ movedTable move (tableOf f room)
       table room = ap (rowsFor room) eg ∙ table-moved room c c′ e ∙ ap (λ (r : Found Chunk). movedTable move (rowsFor room r)) (sym ef)

@@ -29,6 +29,8 @@ use Rattle.ilbm_spec.specs.Pictures.{viewIn, pictureAnswer}
 use Rattle.ilbm_spec.specs.Palette.{answerIn, extentIn}
 use Rattle.ilbm_spec.specs.Rows.{lineRead, frameRead}
 use Rattle.ilbm_spec.specs.Shapes.{shapeLineRead, shapeFrameRead}
+use Rattle.ilbm_spec.specs.Colours.{colourLineRead, colourFrameRead}
+use Rattle.ilbm_spec.specs.Triples.{triplesIn}
 use Rattle.ilbm_spec.specs.Table.{rowsFor}
 use Rattle.theorem_additions.specs.Statement.{lineTold, frameTold, shapeLineTold, shapeFrameTold, tableTold, AllRefused}
 use Rattle.theorem_additions.specs.laws.Bytes.{pass}
@@ -219,5 +221,9 @@ all-refused g p e = record {
       ap (λ (r : Found Chunk). shapeLineTold (shapeLineRead (viewIn r i) start (length row) (length shape)) row shape) e;
   shape-frames = λ i frame shape.
       ap (λ (r : Found Chunk). shapeFrameTold (shapeFrameRead (viewIn r i) (length frame) (length shape)) frame shape) e;
+  colour-lines = λ i default start row.
+      ap (λ (r : Found Chunk). lineTold (colourLineRead (viewIn r i) default start (length row)) row) e;
+  colour-frames = λ i default frame. ap (λ (r : Found Chunk). frameTold (colourFrameRead (viewIn r i) default (length frame)) frame) e;
+  triples = λ i default. ap (λ (r : Found Chunk). triplesIn (viewIn r i) default) e;
   tables = λ table. ap (λ (r : Found Chunk). tableTold (rowsFor (length table) r) table) e;
 }

@@ -18,18 +18,21 @@ use Rattle.ilbm_spec.specs.Pictures.{Viewed, viewOf, pictureAnswer, pictureOf}
 use Rattle.ilbm_spec.specs.Palette.{answerIn, paletteAnswer}
 use Rattle.ilbm_spec.specs.Rows.{Read, lineAnswer, lineOf, lineInBody, frameAnswer, frameOf, frameInBody}
 use Rattle.ilbm_spec.specs.Shapes.{Shaped, shapeLineOf, shapeFrameOf, shapeLineInBody, shapeFrameInBody}
+use Rattle.ilbm_spec.specs.Colours.{colourLineOf, colourFrameOf, colourLineInBody, colourFrameInBody}
+use Rattle.ilbm_spec.specs.Triples.{triplesIn, triplesOf}
 use Rattle.byterun_pack.specs.declared.PackAnswer.{PackAnswer}
 use Rattle.byterun_pack.specs.declared.PackAnswer.the-variants.{Written as Packed, BadLength, NoRoom}
 use Rattle.byterun_pack.specs.Pack.{packNumber, packOf}
 use Rattle.write_picture.specs.declared.WriteAnswer.{WriteAnswer}
 use Rattle.write_picture.specs.declared.WriteAnswer.the-variants.{Written, Refused as Write-refused}
 use Rattle.write_picture.specs.Write.{writeOf}
-use Rattle.theorem_demands.specs.Numbers.{ofPicture, ofLine, ofFrame, ofBodyLine, ofBodyFrame, andShape, ofPacking, ofWriting}
-use Rattle.theorem_demands.specs.Numbers.{among, OneOf}
+use Rattle.theorem_demands.specs.Numbers.{ofPicture, ofLine, ofFrame, ofBodyLine, ofBodyFrame, andShape, andColours, ofPacking}
+use Rattle.theorem_demands.specs.Numbers.{ofWriting, among, OneOf}
 use Rattle.theorem_demands.specs.laws.Numbers.{Refuses, without-place, within, widened}
 use Rattle.theorem_demands.specs.laws.Pictures.{view-refuses, scan-line-refuses, frame-refuses, body-line-refuses, body-frame-refuses}
 use Rattle.theorem_demands.specs.laws.Pictures.{shape-line-refuses, shape-frame-refuses, body-shape-line-refuses}
-use Rattle.theorem_demands.specs.laws.Pictures.{body-shape-frame-refuses}
+use Rattle.theorem_demands.specs.laws.Pictures.{body-shape-frame-refuses, colour-line-refuses, colour-frame-refuses}
+use Rattle.theorem_demands.specs.laws.Pictures.{body-colour-line-refuses, body-colour-frame-refuses}
 
 -- ---- a picture
 
@@ -53,6 +56,16 @@ palette-by (refused k p) default i = widened {A = Chunk} ofPicture (0 ∷ ofPict
 pub palette :
     (s : List ℕ) (i : ℕ) (default : List ℕ) → let a = paletteAnswer s i default in OneOf (0 ∷ ofPicture) (a .number) (a .place)
 palette s i default = palette-by (viewOf s i) default (view-refuses s i)
+
+triples-by :
+    (v : Viewed) (default : List ℕ) → Refuses ofPicture v → let a = triplesIn v default in OneOf (0 ∷ ofPicture) (a .number) (a .place)
+unfolding within among
+triples-by (found c) default i = (refl, refl)
+triples-by (refused k p) default i = widened {A = Chunk} ofPicture (0 ∷ ofPicture) refl (refused k p) i
+
+pub triples :
+    (s : List ℕ) (i : ℕ) (default : List ℕ) → let a = triplesOf s i default in OneOf (0 ∷ ofPicture) (a .number) (a .place)
+triples s i default = triples-by (viewOf s i) default (view-refuses s i)
 
 abbrev Line-by : List ℕ → LineAnswer → Type 0
 Line-by numbers (Next q) = Unit {0}
@@ -123,6 +136,40 @@ body-shape-frame body w h planes masking compression transparent room shapeRoom 
     let r : Read Shaped = shapeFrameInBody body w h planes masking compression transparent room shapeRoom in
     let i = body-shape-frame-refuses body w h planes masking compression transparent room shapeRoom in
     subst (Frame-by (andShape ofBodyFrame)) e (frame-by (andShape ofBodyFrame) r i)
+
+-- ---- in colours
+
+pub colour-line :
+    (s : List ℕ) (i : ℕ) (default : List ℕ) (start room k p : ℕ) →
+    lineAnswer (colourLineOf s i default start room) ≡ Line-refused k p → OneOf (andColours ofLine) k p
+colour-line s i default start room k p e =
+    let r : Read (List ℕ) = colourLineOf s i default start room in
+    subst (Line-by (andColours ofLine)) e (line-by (andColours ofLine) r (colour-line-refuses s i default start room))
+
+pub colour-frame :
+    (s : List ℕ) (i : ℕ) (default : List ℕ) (room k p : ℕ) →
+    frameAnswer (colourFrameOf s i default room) ≡ Frame-refused k p → OneOf (andColours ofFrame) k p
+colour-frame s i default room k p e =
+    let r : Read (List ℕ) = colourFrameOf s i default room in
+    subst (Frame-by (andColours ofFrame)) e (frame-by (andColours ofFrame) r (colour-frame-refuses s i default room))
+
+pub body-colour-line :
+    (body : List ℕ) (w planes masking compression mode : ℕ) (palette : List ℕ) (start room k p : ℕ) →
+    lineAnswer (colourLineInBody body w planes masking compression mode palette start room) ≡ Line-refused k p →
+    OneOf (andColours ofBodyLine) k p
+body-colour-line body w planes masking compression mode palette start room k p e =
+    let r : Read (List ℕ) = colourLineInBody body w planes masking compression mode palette start room in
+    let i = body-colour-line-refuses body w planes masking compression mode palette start room in
+    subst (Line-by (andColours ofBodyLine)) e (line-by (andColours ofBodyLine) r i)
+
+pub body-colour-frame :
+    (body : List ℕ) (w h planes masking compression mode : ℕ) (palette : List ℕ) (room k p : ℕ) →
+    frameAnswer (colourFrameInBody body w h planes masking compression mode palette room) ≡ Frame-refused k p →
+    OneOf (andColours ofBodyFrame) k p
+body-colour-frame body w h planes masking compression mode palette room k p e =
+    let r : Read (List ℕ) = colourFrameInBody body w h planes masking compression mode palette room in
+    let i = body-colour-frame-refuses body w h planes masking compression mode palette room in
+    subst (Frame-by (andColours ofBodyFrame)) e (frame-by (andColours ofBodyFrame) r i)
 
 -- ---- writing
 

@@ -1,7 +1,7 @@
 -- A picture is refused by the file's numbers and by those of pictures: its number is one of these where it is not 0. Rows are asked of such
--- a picture, and each row that is read is whole or refused by 27 or 26, so are rows and scan lines one after the other, read once for the
--- colours or twice for the shape too. Of a BODY by itself they are asked after its header's fields, whose number is one of four where it is
--- not 0.
+-- a picture, and each row that is read is whole or refused by 27 or 26, so are rows and scan lines one after the other, whatever is made of
+-- them, read once, or twice for the shape too. Of a BODY by itself they are asked after its header's fields, whose number is one of four
+-- where it is not 0.
 use Prim.Native.Nat.{ℕ, zero, suc}
 use mathlib.Core.Path.{_≡_, refl}
 use mathlib.Core.Bool.{Bool, true, false}
@@ -15,10 +15,11 @@ use Rattle.ilbm_spec.specs.declared.BitmapHeader.{BitmapHeader}
 use Rattle.ilbm_spec.specs.Contents.{Located, Content, contentsOf}
 use Rattle.ilbm_spec.specs.Pictures.{Viewed, fieldsRefusal, headerRefusal, pictureRefusal, judged, pickContent, viewIn, viewOf}
 use Rattle.ilbm_spec.specs.Rows.{Read, thenRead, rowRead, rowsFrom, Pixels, lineWith, linesWith, leftover, lineInBody, frameInBody}
-use Rattle.ilbm_spec.specs.Rows.{onBody, askRows, lineOf, frameOf}
+use Rattle.ilbm_spec.specs.Rows.{onBody, askBody, lineOf, frameOf}
 use Rattle.ilbm_spec.specs.Shapes.{shapeLineOf, shapeFrameOf, shapeLineInBody, shapeFrameInBody}
+use Rattle.ilbm_spec.specs.Colours.{colourLineOf, colourFrameOf, colourLineInBody, colourFrameInBody}
 use Rattle.theorem_demands.specs.Numbers.{structural, ofPicture, ofRows, ofLine, ofFrame, ofFields, ofBodyLine, ofBodyFrame}
-use Rattle.theorem_demands.specs.Numbers.{andShape, among, OneOf}
+use Rattle.theorem_demands.specs.Numbers.{andShape, andColours, among, OneOf}
 use Rattle.theorem_demands.specs.laws.Numbers.{Refuses, without-place, choice-refuses, within, among-within, widened}
 use Rattle.theorem_demands.specs.laws.Structure.{file-refuses}
 
@@ -121,9 +122,9 @@ body-refuses numbers rows i j [] = i
 body-refuses numbers rows i j (body ∷ others) = j (body .content)
 
 asked-refuses :
-    {A : Type 0} (numbers : List ℕ) (v : Viewed) (rows : BitmapHeader → List ℕ → Read A) → within ofPicture numbers ≡ true →
-    OneOf numbers 25 0 → Refuses ofPicture v → ((b : BitmapHeader) (body : List ℕ) → Refuses numbers (rows b body)) →
-    Refuses numbers (askRows v rows)
+    {A : Type 0} (numbers : List ℕ) (v : Viewed) (rows : Content → List ℕ → Read A) → within ofPicture numbers ≡ true →
+    OneOf numbers 25 0 → Refuses ofPicture v → ((c : Content) (body : List ℕ) → Refuses numbers (rows c body)) →
+    Refuses numbers (askBody v rows)
 asked-refuses numbers (found c) rows w i j each = search (body-refuses, each)
 asked-refuses numbers (refused k p) rows w i j each = widened {A = Content} ofPicture numbers w (refused k p) j
 
@@ -191,3 +192,29 @@ pub body-shape-frame-refuses :
 unfolding within among
 body-shape-frame-refuses body w h planes masking compression transparent room shapeRoom =
     search (unless-zero, fields-number, choice-refuses, leftover-refuses, read-refuses, of-lines) depth 8
+
+-- ---- in colours
+
+pub colour-line-refuses :
+    (s : List ℕ) (i : ℕ) (default : List ℕ) (start room : ℕ) → Refuses (andColours ofLine) (colourLineOf s i default start room)
+unfolding within among
+colour-line-refuses s i default start room = search (asked-refuses, view-refuses, choice-refuses, of-line) depth 8
+
+pub colour-frame-refuses :
+    (s : List ℕ) (i : ℕ) (default : List ℕ) (room : ℕ) → Refuses (andColours ofFrame) (colourFrameOf s i default room)
+unfolding within among
+colour-frame-refuses s i default room = search (asked-refuses, view-refuses, choice-refuses, leftover-refuses, of-lines) depth 8
+
+pub body-colour-line-refuses :
+    (body : List ℕ) (w planes masking compression mode : ℕ) (palette : List ℕ) (start room : ℕ) →
+    Refuses (andColours ofBodyLine) (colourLineInBody body w planes masking compression mode palette start room)
+unfolding within among
+body-colour-line-refuses body w planes masking compression mode palette start room =
+    search (unless-zero, fields-number, choice-refuses, of-line) depth 8
+
+pub body-colour-frame-refuses :
+    (body : List ℕ) (w h planes masking compression mode : ℕ) (palette : List ℕ) (room : ℕ) →
+    Refuses (andColours ofBodyFrame) (colourFrameInBody body w h planes masking compression mode palette room)
+unfolding within among
+body-colour-frame-refuses body w h planes masking compression mode palette room =
+    search (unless-zero, fields-number, choice-refuses, leftover-refuses, of-lines) depth 8

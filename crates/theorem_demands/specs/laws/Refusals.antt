@@ -24,6 +24,11 @@ refusals =
       shape-frame = PictureCalls.shape-frame;
       body-shape-line = PictureCalls.body-shape-line;
       body-shape-frame = PictureCalls.body-shape-frame;
+      colour-line = PictureCalls.colour-line;
+      colour-frame = PictureCalls.colour-frame;
+      body-colour-line = PictureCalls.body-colour-line;
+      body-colour-frame = PictureCalls.body-colour-frame;
+      triples = PictureCalls.triples;
       pack = PictureCalls.pack;
       write = PictureCalls.write;
     }

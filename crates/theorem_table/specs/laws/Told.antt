@@ -7,7 +7,7 @@ use mathlib.Core.List.{List, [], _∷_}
 use native.Mathlib.Omega.{arith}
 use borrow.Author.Tests.{eq-eqb, eqb-true}
 use lib.Dec.{eqb}
-use lib.ListN.{length}
+use lib.ListN.{length, replicate}
 use Rattle.iff_name.specs.Name.{pick}
 use Rattle.iff_chunk.specs.Chunks.{word}
 use Rattle.iff_tree.specs.Judge.{found, refused}
@@ -17,13 +17,16 @@ use Rattle.ilbm_spec.specs.Contents.{Located, located, Property, own, shared, a
 use Rattle.ilbm_spec.specs.Pictures.{u16, headerIn, hotSpotIn, destinationIn, dataOf, originOf, pictureRefusal, Viewed, judged, pictureFrom}
 use Rattle.ilbm_spec.specs.Pictures.{pictureAnswer, paletteFrom}
 use Rattle.ilbm_spec.specs.Palette.{Answer, answerIn, extentIn}
-use Rattle.ilbm_spec.specs.Rows.{Read, bodyLine, bodyFrame, lineInBody, frameInBody, onBody, askRows, lineRead, frameRead}
-use Rattle.ilbm_spec.specs.Shapes.{bodyShapeLine, bodyShapeFrame, shapeLineInBody, shapeFrameInBody, shapeLineRead, shapeFrameRead}
+use Rattle.ilbm_spec.specs.Rows.{Read, lineInBody, frameInBody, onBody, askBody, lineRead, frameRead}
+use Rattle.ilbm_spec.specs.Shapes.{shapeLineInBody, shapeFrameInBody, shapeLineRead, shapeFrameRead}
+use Rattle.ilbm_spec.specs.Colours.{colourLineInBody, colourFrameInBody, colourLineRead, colourFrameRead}
+use Rattle.ilbm_spec.specs.Triples.{triplesBy, triplesIn}
 use Rattle.ilbm_spec.specs.Table.{propertyRow, bodyRow, PictureRow, rowWith, withoutParts, pictureRow}
 use Rattle.ilbm_spec.specs.laws.Pictures.{header-size, one-body, frame-fields, line-fields}
-use Rattle.theorem_table.specs.ByTable.{dataBy, bodyBy, headerBy, unlessRefused, originBy, pictureBy, propertiesBy, paletteBy}
-use Rattle.theorem_table.specs.ByTable.{extentBy, rowsBy, scanLineBy, frameBy, shapeLineBy, shapeFrameBy, chunkBy, propertyBy}
-use Rattle.theorem_table.specs.ByTable.{bodiesBy, contentFor, viewBy, Part, Parts}
+use Rattle.theorem_table.specs.ByTable.{dataBy, bodyBy, headerBy, modeBy, coloursBy, unlessRefused, originBy, pictureBy}
+use Rattle.theorem_table.specs.ByTable.{propertiesBy, paletteBy, extentBy, paletteTriplesBy, rowsBy, scanLineBy, frameBy, shapeLineBy}
+use Rattle.theorem_table.specs.ByTable.{shapeFrameBy, colourLineBy, colourFrameBy, chunkBy, propertyBy, bodiesBy, contentFor, viewBy}
+use Rattle.theorem_table.specs.ByTable.{Part, Parts}
 use Rattle.theorem_table.specs.laws.Lies.{Lies, PropertyLies, BodiesLie, ContentLies}
 
 -- the row of a picture that is refused, or is not
@@ -150,7 +153,7 @@ module _ (s : List ℕ) where
     palette-told default = by-answer {A = Answer} c (λ r. record {
       number = 0;
       place = 0;
-      colours = pick (eqb (r .cmap .origin) 0) default (dataBy s (r .cmap));
+      colours = coloursBy s r default;
     }) (λ k p. record { number = k; place = p; colours = [] }) (λ v. answerIn v default) (λ k p. refl)
         (λ e j. record { number = 0; place = 0; colours = colours-told (c .cmap) (l .cmap) default j })
 
@@ -162,43 +165,75 @@ module _ (s : List ℕ) where
         go k true = refl
         go k false = refl
 
-    -- rows by the header and the BODY, where the fields of a picture that has one pass
+    header : dataBy s (propertyRow (c .bmhd)) ≡ dataOf (c .bmhd)
+    header = data-told (c .bmhd) (l .bmhd)
+
+    mode : dataBy s (propertyRow (c .camg)) ≡ dataOf (c .camg)
+    mode = data-told (c .camg) (l .camg)
+
+    pub triples-told : (default : List ℕ) → paletteTriplesBy s (pictureRow c) default ≡ triplesIn (judged c) default
+    triples-told default =
+        by-answer c
+        (λ r. record { number = 0; place = 0; triples = triplesBy (modeBy s r) (headerBy s r .planes) (coloursBy s r default) })
+        (λ k p. record { number = k; place = p; triples = replicate 64 (0 ∷ 0 ∷ 0 ∷ []) }) (λ v. triplesIn v default) (λ k p. refl)
+        (λ e. rw (header, mode, colours-told (c .cmap) (l .cmap) default))
+
+    -- rows by what the row tells and the BODY, where the fields of a picture that has one pass
     asked-told :
-        {A : Type 0} (rows inBody : BitmapHeader → List ℕ → Read A) →
+        {A : Type 0} (rows : Content → List ℕ → Read A) (inBody : PictureRow → List ℕ → Read A) →
         (pictureRefusal c ≡ 0 → (x : Located) (xs : List Located) → c .bodies ≡ x ∷ xs →
-        inBody (headerIn (dataOf (c .bmhd))) (x .content) ≡ rows (headerIn (dataOf (c .bmhd))) (x .content)) →
-        let r = pictureRow c in rowsBy r (inBody (headerBy s r) (bodyBy s r)) ≡ askRows (judged c) rows
+        inBody (rowWith 0 c) (x .content) ≡ rows c (x .content)) →
+        let r = pictureRow c in rowsBy r (inBody r (bodyBy s r)) ≡ askBody (judged c) rows
     asked-told rows inBody pass =
-        let b : BitmapHeader = headerIn (dataOf (c .bmhd)) in
-        by-answer c (λ r. pick (eqb (r .body .there) 0) (refused 25 0) (inBody (headerBy s r) (bodyBy s r))) refused
-        (λ v. askRows v rows) (λ k p. refl)
-        (λ e. rw (data-told (c .bmhd) (l .bmhd)) (rows-told (c .bodies) (l .bodies) (rows b) (inBody b) (pass e) (rowWith 0 c) refl))
+        by-answer c (λ r. pick (eqb (r .body .there) 0) (refused 25 0) (inBody r (bodyBy s r))) refused (λ v. askBody v rows)
+        (λ k p. refl) (λ e. rows-told (c .bodies) (l .bodies) (rows c) (inBody (rowWith 0 c)) (pass e) (rowWith 0 c) refl)
 
     pub line-told : (start room : ℕ) → scanLineBy s (pictureRow c) start room ≡ lineRead (judged c) start room
     line-told start room =
-        asked-told (λ b body. bodyLine body (b .w) (b .planes) (b .masking) (b .compression) start room)
-        (λ b body. lineInBody body (b .w) (b .planes) (b .masking) (b .compression) start room)
-        (λ e x xs i. rw (line-fields c e x xs i))
+        asked-told _
+        (λ r body. let b : BitmapHeader = headerBy s r in lineInBody body (b .w) (b .planes) (b .masking) (b .compression) start room)
+        (λ e x xs i. rw (header, line-fields c e x xs i))
 
     pub frame-told : (room : ℕ) → frameBy s (pictureRow c) room ≡ frameRead (judged c) room
     frame-told room =
-        asked-told (λ b body. bodyFrame body (b .w) (b .h) (b .planes) (b .masking) (b .compression) room)
-        (λ b body. frameInBody body (b .w) (b .h) (b .planes) (b .masking) (b .compression) room)
-        (λ e x xs i. rw (frame-fields c e x xs i))
+        asked-told _
+        (λ r body. let b : BitmapHeader = headerBy s r in frameInBody body (b .w) (b .h) (b .planes) (b .masking) (b .compression) room)
+        (λ e x xs i. rw (header, frame-fields c e x xs i))
 
     pub shape-line-told :
         (start room shapeRoom : ℕ) →
         shapeLineBy s (pictureRow c) start room shapeRoom ≡ shapeLineRead (judged c) start room shapeRoom
     shape-line-told start room shapeRoom =
-        asked-told
-        (λ b body. bodyShapeLine body (b .w) (b .planes) (b .masking) (b .compression) (b .transparent) start room shapeRoom)
-        (λ b body. shapeLineInBody body (b .w) (b .planes) (b .masking) (b .compression) (b .transparent) start room shapeRoom)
-        (λ e x xs i. rw (line-fields c e x xs i))
+        asked-told _
+        (λ r body.
+        let b : BitmapHeader = headerBy s r in
+        shapeLineInBody body (b .w) (b .planes) (b .masking) (b .compression) (b .transparent) start room shapeRoom)
+        (λ e x xs i. rw (header, line-fields c e x xs i))
 
     pub shape-frame-told :
         (room shapeRoom : ℕ) → shapeFrameBy s (pictureRow c) room shapeRoom ≡ shapeFrameRead (judged c) room shapeRoom
     shape-frame-told room shapeRoom =
-        asked-told
-        (λ b body. bodyShapeFrame body (b .w) (b .h) (b .planes) (b .masking) (b .compression) (b .transparent) room shapeRoom)
-        (λ b body. shapeFrameInBody body (b .w) (b .h) (b .planes) (b .masking) (b .compression) (b .transparent) room shapeRoom)
-        (λ e x xs i. rw (frame-fields c e x xs i))
+        asked-told _
+        (λ r body.
+        let b : BitmapHeader = headerBy s r in
+        shapeFrameInBody body (b .w) (b .h) (b .planes) (b .masking) (b .compression) (b .transparent) room shapeRoom)
+        (λ e x xs i. rw (header, frame-fields c e x xs i))
+
+    pub colour-line-told :
+        (default : List ℕ) (start room : ℕ) →
+        colourLineBy s (pictureRow c) default start room ≡ colourLineRead (judged c) default start room
+    colour-line-told default start room =
+        asked-told _
+        (λ r body.
+        let b : BitmapHeader = headerBy s r in
+        colourLineInBody body (b .w) (b .planes) (b .masking) (b .compression) (modeBy s r) (coloursBy s r default) start room)
+        (λ e x xs i. rw (header, mode, colours-told (c .cmap) (l .cmap) default, line-fields c e x xs i))
+
+    pub colour-frame-told :
+        (default : List ℕ) (room : ℕ) → colourFrameBy s (pictureRow c) default room ≡ colourFrameRead (judged c) default room
+    colour-frame-told default room =
+        asked-told _
+        (λ r body.
+        let b : BitmapHeader = headerBy s r in
+        colourFrameInBody body (b .w) (b .h) (b .planes) (b .masking) (b .compression) (modeBy s r) (coloursBy s r default) room)
+        (λ e x xs i. rw (header, mode, colours-told (c .cmap) (l .cmap) default, frame-fields c e x xs i))

@@ -1,0 +1,4 @@
+pub mod Filled
+pub mod Held
+pub mod Laws
+pub mod Meet
