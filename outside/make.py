@@ -3,7 +3,8 @@
 Needs Debian's netpbm. ppmtoilbm writes each picture, and ilbmtoppm reads it back to the
 PPM that stands beside it; the mask that was handed in, if there is one, stands there as
 PBM, with 1 for the pixels that show. Where 01 has the library refuse the rows, the number
-stands beside it too, and the PPM, if there is one, has the palette.
+stands beside it too, and the PPM, if there is one, has the palette; where Ask 5 has it
+refuse the colours, the number stands beside it alone.
 """
 
 import pathlib
@@ -55,6 +56,8 @@ def pictures(mask):
         yield f"mask_{name}", sixteen, words + ["-mmethod", "plane", "-maskfile", mask]
         yield f"ham6_{name}", many, ["-ham6", "-cmethod", method]
         yield f"ham8_{name}", many, ["-ham8", "-cmethod", method]
+    for planes in "5", "7":
+        yield f"ham{planes}", many, ["-hamplanes", planes, "-hamforce"]
     yield "texts", sixteen, ["-fixplanes", "4", *TEXTS]
     yield "wide", ppm(2300, 1, 2, run=1100), ["-fixplanes", "1"]
     yield "map_only", sixteen, ["-cmaponly"]
@@ -64,6 +67,7 @@ def pictures(mask):
 
 
 REFUSED = {"map_only": 25, "planes9": 41, "direct15": 41, "true24": 41}
+NO_COLOURS = {"ham5": 46, "ham7": 46}
 
 
 def main():
@@ -78,7 +82,9 @@ def main():
             (folder / f"{name}.pbm").write_bytes(MASK)
         if name in REFUSED:
             (folder / f"{name}.refused").write_text(f"{REFUSED[name]}\n")
-        if REFUSED.get(name) != 41:
+        if name in NO_COLOURS:
+            (folder / f"{name}.colours").write_text(f"{NO_COLOURS[name]}\n")
+        elif REFUSED.get(name) != 41:
             shown = run("ilbmtoppm", "-quiet", given=file)
             (folder / f"{name}.ppm").write_bytes(run("ppmtoppm", given=shown))
     mask.unlink()

@@ -4,7 +4,8 @@ Needs Debian's grafx2, xvfb, xdotool, pike8.0-core, pike8.0-image, libtwelvemonk
 openjdk-17-jdk-headless and netpbm. Each program is handed a picture as PNG or PPM and saves
 it. Beside the file stands the PPM that ilbmtoppm reads from it, which must be the pixels
 that were handed over, and a PBM with 1 for those that show if one colour was transparent;
-or the number with which the papers have the library refuse it.
+or the number with which the papers have the library refuse it. Beside netpbm's pictures of
+hold-and-modify stands the PPM that Pike reads, which follows 003 and Ask 5.
 """
 
 import pathlib
@@ -17,6 +18,7 @@ from make import PLANES, colour, numbers, pbm, ppm, run
 from others import grafx2
 
 HERE = pathlib.Path(__file__).parent / "others"
+FILES = pathlib.Path(__file__).parent / "files"
 NAMES = "common-lang", "common-io", "common-image", "imageio-core", "imageio-iff"
 JARS = ":".join(f"/usr/share/java/{name}.jar" for name in NAMES)
 CLEAR = 5  # the transparent colour of one picture
@@ -85,6 +87,18 @@ def by_java(work):
         yield f"java_{how}", (work / "saved").read_bytes(), shown
 
 
+def held_by_pike(folder, work):
+    """Pike's pixels of netpbm's pictures with 6 and 8 planes."""
+    given, shown = work / "held", work / "shown"
+    given.mkdir()
+    shown.mkdir()
+    for file in FILES.glob("ham[68]_*.ilbm"):
+        (given / file.name).write_bytes(file.read_bytes())
+    run("pike8.0", HERE / "ilbm.pike", "read", given, shown)
+    for file in shown.iterdir():
+        (folder / file.name).with_suffix(".pike.ppm").write_bytes(file.read_bytes())
+
+
 def keep(folder, name, file, shown):
     """The file, with the number or the pixels beside it."""
     (folder / name).with_suffix(".ilbm" if file[8:12] == b"ILBM" else ".lbm").write_bytes(file)
@@ -105,6 +119,7 @@ def main():
         for program in by_grafx2, by_pike, by_java:
             for name, file, shown in program(pathlib.Path(work)):
                 keep(folder, name, file, shown)
+        held_by_pike(folder, pathlib.Path(work))
 
 
 if __name__ == "__main__":

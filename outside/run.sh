@@ -1,7 +1,7 @@
 #!/bin/sh
 # The library beside other programs. Needs Debian's netpbm and ffmpeg, and target/staticlib/libflorinhado.a (./library).
-# Remakes netpbm's files of outside/files, reads all, then has ilbmtoppm and ffmpeg read pictures that the library writes, and
-# ilbmtoppm the shapes of brushes.
+# Remakes netpbm's files of outside/files, reads all, then has ilbmtoppm and ffmpeg read pictures that the library writes, ilbmtoppm the
+# shapes of brushes, and both pictures by hold-and-modify and half-bright.
 set -eu
 cd "$(dirname "$0")/.."
 for program in ppmtoilbm ilbmtoppm ppmtoppm pamtopnm ffmpeg; do
@@ -13,7 +13,7 @@ cargo build --offline --quiet --release -p outside
 outside=$CARGO_TARGET_DIR/release/outside
 work=target/outside
 rm -rf "$work"
-mkdir -p "$work/written" "$work/brushes" "$work/apart"
+mkdir -p "$work/written" "$work/brushes" "$work/colours" "$work/apart"
 
 by_netpbm() {
     ilbmtoppm -quiet "$1" | ppmtoppm
@@ -35,23 +35,18 @@ ilbmtoppm -version 2>&1 | sed -n 's/.*Netpbm Version: //p'
 ffmpeg -version | sed -n 1p | cut -d' ' -f1-3
 
 python3 -B outside/make.py "$work/files"
-diff -r -x 'grafx2_*' -x 'pike_*' -x 'java_*' "$work/files" outside/files
+diff -r -x 'grafx2_*' -x 'pike_*' -x 'java_*' -x '*.pike.ppm' "$work/files" outside/files
 echo "outside/files: netpbm's remade, the same bytes"
 "$outside" read outside/files
 
+# netpbm starts every line of hold-and-modify with an entry of the palette, so that ffmpeg shows what 003 and the ask have.
 count=0
 for file in outside/files/*.ilbm; do
     name=${file%.ilbm}
-    case $name in
-    */ham*)
-        "$outside" ham "$file" > "$work/held.ppm"
-        by_ffmpeg "$file" | cmp - "$work/held.ppm"
-        ;;
-    *)
-        [ -e "$name.refused" ] && continue
-        by_ffmpeg "$file" | cmp - "$name.ppm"
-        ;;
-    esac
+    if [ -e "$name.refused" ] || [ -e "$name.colours" ]; then continue; fi
+    shown=$name.ppm
+    [ ! -e "$name.pike.ppm" ] || shown=$name.pike.ppm
+    by_ffmpeg "$file" | cmp - "$shown"
     count=$((count + 1))
 done
 echo "outside/files: $count read by ffmpeg, the same pixels"
@@ -79,6 +74,22 @@ for file in "$work"/brushes/*.ilbm; do
     count=$((count + 1))
 done
 echo "$count brushes of the library read by ilbmtoppm -maskfile, the same shapes"
+
+# Hold-and-modify by the rule of each program: ilbmtoppm keeps the low bits of a part, ffmpeg starts a line from the palette's first colour.
+"$outside" colours "$work/colours"
+count=0
+for file in "$work"/colours/*.ilbm; do
+    name=${file%.ilbm}
+    case $name in
+    */half_*) both "$file" "$name.ppm" ;;
+    *)
+        by_netpbm "$file" | cmp - "$name.netpbm.ppm"
+        by_ffmpeg "$file" | cmp - "$name.ffmpeg.ppm"
+        ;;
+    esac
+    count=$((count + 1))
+done
+echo "$count pictures by hold-and-modify and half-bright read by ilbmtoppm and ffmpeg, each by its rule"
 
 # Told only: files on which readers differ.
 "$outside" apart "$work/apart"

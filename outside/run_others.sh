@@ -13,7 +13,7 @@ cargo build --offline --quiet --release -p outside
 outside=$CARGO_TARGET_DIR/release/outside
 work=target/others
 rm -rf "$work"
-mkdir -p "$work/written" "$work/brushes" "$work/pike" "$work/java" "$work/png" "$work/grafx2"
+mkdir -p "$work/written" "$work/brushes" "$work/colours" "$work/apart" "$work/pike" "$work/java" "$work/png" "$work/grafx2"
 
 python3 -B outside/make_others.py "$work/files"
 for file in "$work"/files/*; do
@@ -22,28 +22,65 @@ done
 echo "outside/files: $(ls "$work/files" | grep -c 'lbm$') files remade, the same bytes"
 "$outside" read outside/files
 
-# same PROGRAM FOLDER: the PPM files in the program's folder have the library's pixels.
+# same PROGRAM FOLDER [RULE]: the PPM files in the program's folder have the library's pixels, those of hold-and-modify by the rule.
 same() {
     count=0
     for shown in "$work/$1"/*.ppm; do
-        cmp "$shown" "$work/$2/$(basename "$shown")"
+        known=$work/$2/$(basename "$shown" .ppm)
+        [ ! -e "$known.${3:-}.ppm" ] || known=$known.$3
+        cmp "$shown" "$known.ppm"
         count=$((count + 1))
     done
-    echo "$count pictures of the library read by $1, the same pixels"
+    echo "$count pictures of the library read by $1, the same pixels${3:+ by the rule of $3}"
+}
+
+by_pike() {
+    rm -f "$work"/pike/*.ppm
+    pike8.0 outside/others/ilbm.pike read "$work/$1" "$work/pike" 2> "$work/log"
+    [ ! -s "$work/log" ] || echo "pike fails on $(wc -l < "$work/log") pictures"
+}
+
+jars=/usr/share/java
+jars=$jars/common-lang.jar:$jars/common-io.jar:$jars/common-image.jar:$jars/imageio-core.jar:$jars/imageio-iff.jar
+by_java() {
+    rm -f "$work"/java/*.ppm
+    java -cp "$jars" outside/others/Ilbm.java read "$work/$1" "$work/java" 2> "$work/log"
+    [ ! -s "$work/log" ] || echo "java fails on $(wc -l < "$work/log") pictures"
+}
+
+# apart PROGRAM: tells what it made of the files on which readers differ.
+apart() {
+    for file in "$work"/apart/*.ilbm; do
+        name=$(basename "$file" .ilbm)
+        if [ ! -e "$work/$1/$name.ppm" ]; then
+            told="refused"
+        elif cmp -s "$work/$1/$name.ppm" "$work/apart/$name.ppm"; then
+            told="the library's pixels"
+        else
+            told="other pixels"
+        fi
+        echo "$name, $1: $told"
+    done
 }
 
 "$outside" write "$work/written"
-pike8.0 outside/others/ilbm.pike read "$work/written" "$work/pike"
-same pike written
-rm "$work"/pike/*.ppm
 "$outside" brushes "$work/brushes"
-pike8.0 outside/others/ilbm.pike read "$work/brushes" "$work/pike"
+"$outside" colours "$work/colours"
+"$outside" apart "$work/apart"
+by_pike written
+same pike written
+by_pike brushes
 same pike brushes
-jars=/usr/share/java
-jars=$jars/common-lang.jar:$jars/common-io.jar:$jars/common-image.jar:$jars/imageio-core.jar:$jars/imageio-iff.jar
-java -cp "$jars" outside/others/Ilbm.java read "$work/written" "$work/java" 2> "$work/java.log"
-echo "java fails on $(wc -l < "$work/java.log") pictures"
+by_pike colours
+same pike colours
+by_java written
 same java written
+by_java colours
+same java colours java
+by_pike apart
+apart pike
+by_java apart
+apart java
 
 # GrafX2 takes five seconds for a file: all plane counts, plain and packed, at two widths.
 python3 -B outside/others/grafx2.py "$work/png" "$work"/written/*_17.ilbm "$work"/written/*_319.ilbm
@@ -51,3 +88,11 @@ for shown in "$work"/png/*.png; do
     pngtopam "$shown" | ppmtoppm > "$work/grafx2/$(basename "$shown" .png).ppm"
 done
 same grafx2 written
+
+# It has at most 256 colours: pictures of few pixels. A line starts as in ffmpeg.
+rm "$work"/png/*.png "$work"/grafx2/*.ppm
+python3 -B outside/others/grafx2.py "$work/png" "$work"/colours/*_17.ilbm "$work"/colours/*_33.ilbm
+for shown in "$work"/png/*.png; do
+    pngtopam "$shown" | ppmtoppm > "$work/grafx2/$(basename "$shown" .png).ppm"
+done
+same grafx2 colours ffmpeg

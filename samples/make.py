@@ -70,6 +70,37 @@ def headers():
     return group(b"CAT ", b"ILBM", *pictures)
 
 
+def rows(planes, *lines):
+    """The plane rows of lines of up to sixteen colour numbers, not packed."""
+    words = (
+        sum((number >> plane & 1) << 15 - x for x, number in enumerate(line))
+        for line in lines
+        for plane in range(planes)
+    )
+    return b"".join(word.to_bytes(2, "big") for word in words)
+
+
+def colours():
+    """Pictures of 4 by 2 pixels under one palette of three entries: hold-and-modify with 6
+    planes and with 8, half-bright, the same numbers with no CAMG, and hold-and-modify with
+    5 planes, of which no colours are told."""
+    held = [0x2A, 0x01, 0x1F, 0x31], [0x1F, 0x03, 0x2F, 0x30]
+    finer = [0xBF, 0x4F, 0xD0, 0x02], [0x60, 0x00, 0xFF, 0x80]
+    bright = [1, 33, 2, 34], [0, 32, 63, 3]
+    pictures = [
+        group(b"FORM", b"ILBM", bmhd(4, planes), mode, chunk(b"BODY", rows(planes, *lines)))
+        for planes, lines, mode in [
+            (6, held, chunk(b"CAMG", b"\0\0\x08\0")),
+            (8, finer, chunk(b"CAMG", b"\0\0\x08\0")),
+            (6, bright, chunk(b"CAMG", b"\0\0\0\x80")),
+            (6, bright, b""),
+            (5, held, chunk(b"CAMG", b"\0\0\x08\0")),
+        ]
+    ]
+    palette = chunk(b"CMAP", bytes.fromhex("112233 ff8000 0040ff"))
+    return group(b"LIST", b"ILBM", group(b"PROP", b"ILBM", palette), *pictures)
+
+
 def accepted(chunks, end, trailing=0):
     return f"answer=0\nplace=0\nchunks={chunks}\nend={end}\ntrailing={trailing}\n"
 
@@ -83,6 +114,7 @@ def main():
     folder.mkdir(parents=True, exist_ok=True)
     picture = run(sample, "picture")
     samples = {
+        "colours": (colours(), accepted(22, 454)),
         "form": (group(b"FORM", b"ILBM"), accepted(1, 12)),
         "headers": (headers(), accepted(19, 348)),
         "nested": (nested(), accepted(15, 178, 8)),

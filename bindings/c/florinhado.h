@@ -163,9 +163,10 @@ size_t iff_count_pictures(const uint8_t *file, size_t file_length,
  *   43  compression of BMHD over 1
  *   24  w, h or nPlanes of BMHD 0, and there is a BODY
  *
- * The calls on its rows have more, in this order: 25 for no BODY, 29 for a start
- * place beyond its end, 28 for what is lent in a wrong length, 44 where a shape
- * is asked for and masking is 3, 27 and 26 for a row of the BODY.
+ * The calls on its rows have more, in this order: 25 for no BODY, 46 where colours
+ * are asked for and CAMG has bit 11 with other than 6 or 8 planes, 29 for a start
+ * place beyond the BODY's end, 28 for what is lent in a wrong length, 44 where a
+ * shape is asked for and masking is 3, 27 and 26 for a row of the BODY.
  *
  * Pictures have the numbers from 0 in file order. A property counts if it
  * stands directly in the picture's FORM before the first BODY; of several the
@@ -327,6 +328,65 @@ size_t ilbm_shape_frame(const uint8_t *file, size_t file_length,
                         size_t *leftover);
 
 /*
+ * Writes one scan line in colours, three bytes a pixel: red, green, blue. The
+ * view modes of CAMG say how they are made of the colour numbers:
+ *
+ *   bit 11 with 6 or 8 planes  hold-and-modify: the two high bits of a number
+ *                              choose 0 the palette's entry of the other bits v,
+ *                              1 a new blue, 2 a new red, 3 a new green; the
+ *                              other parts are those of the pixel to the left, of
+ *                              (0, 0, 0) for a line's first. A part is 17 v with
+ *                              6 planes, 4 v + v / 16 with 8
+ *   bit 7 with 6 planes, and   half-bright: number 32 + i has entry i with each
+ *   not bit 11                 part halved, rounded down
+ *   else                       a number has its entry of the palette
+ *
+ * An entry that the palette hasn't whole is (0, 0, 0). Refusals: those of
+ * ilbm_line, with 28 unless the row has 3 w bytes, and right after 25 46 for bit
+ * 11 with other than 6 or 8 planes. A refusal changes no byte of the row.
+ *
+ *   start                            where the line starts in the BODY, 0 for the first one
+ *   default_palette, default_length  the palette where no CMAP counts
+ *   row, row_length                  the row
+ *   next                             out: where the next line starts
+ */
+size_t ilbm_colour_line(const uint8_t *file, size_t file_length, size_t picture,
+                        size_t start, const uint8_t *default_palette,
+                        size_t default_length, uint8_t *row, size_t row_length,
+                        size_t *place, size_t *next);
+
+/*
+ * Writes all scan lines in colours, line by line. Refusals: those of
+ * ilbm_colour_line but 29, and 28 unless the frame has 3 w h bytes. A refusal
+ * changes no byte of the frame.
+ *
+ *   default_palette, default_length  the palette where no CMAP counts
+ *   frame, frame_length              the frame
+ *   leftover                         out: the bytes of the BODY after the last line
+ */
+size_t ilbm_colour_frame(const uint8_t *file, size_t file_length,
+                         size_t picture, const uint8_t *default_palette,
+                         size_t default_length, uint8_t *frame,
+                         size_t frame_length, size_t *place, size_t *leftover);
+
+/* Triples of a palette, and their bytes. */
+enum { ILBM_TRIPLES = 64, ILBM_TRIPLES_BYTES = 192 };
+
+/*
+ * Writes the palette as 64 triples of red, green, blue. Those of a half-bright
+ * picture are entries 0 to 31 and their halves; those of any other picture are
+ * its palette's first 64. An entry that the palette hasn't whole is (0, 0, 0).
+ * Refusals: those of a picture, then 32 if there is room for fewer than 192
+ * bytes. A refusal changes no byte, and bytes from 192 on stay as they are.
+ *
+ *   default_palette, default_length  the palette where no CMAP counts
+ *   triples, triples_length          the triples
+ */
+size_t ilbm_triples(const uint8_t *file, size_t file_length, size_t picture,
+                    const uint8_t *default_palette, size_t default_length,
+                    uint8_t *triples, size_t triples_length, size_t *place);
+
+/*
  * What the table of pictures tells of a property: its origin, one of those
  * above; where the header of the PROP that has it stands, 0 unless shared; and
  * where its data lies, file[from] to file[to - 1], 0 and 0 if it is absent.
@@ -463,6 +523,61 @@ size_t ilbm_body_shape_frame(const uint8_t *body, size_t body_length,
                              size_t *leftover);
 
 /*
+ * Writes one scan line of any bytes as a BODY in colours, as ilbm_colour_line
+ * does. Refusals, in this order: 41, 42, 43, 24, 46, 29, 28 unless the row has
+ * 3 w bytes, 27 and 26. A refusal changes no byte of the row.
+ *
+ *   body, body_length                the BODY
+ *   w, planes, masking, compression  the fields of the header
+ *   view_mode                        the bits of CAMG, 0 if there is none
+ *   palette, palette_length          the palette, three bytes a colour
+ *   start                            where the line starts in the BODY
+ *   row, row_length                  the row
+ *   place                            out: the place of 27 and 26 in the BODY
+ *   next                             out: where the next line starts
+ */
+size_t ilbm_body_colour_line(const uint8_t *body, size_t body_length,
+                             uint16_t w, uint8_t planes, uint8_t masking,
+                             uint8_t compression, uint32_t view_mode,
+                             const uint8_t *palette, size_t palette_length,
+                             size_t start, uint8_t *row, size_t row_length,
+                             size_t *place, size_t *next);
+
+/*
+ * Writes all scan lines in colours in the same way, line by line. Refusals, in
+ * this order: 41, 42, 43, 24 also for h 0, 46, 28 unless the frame has 3 w h
+ * bytes, 27 and 26. A refusal changes no byte of the frame.
+ *
+ *   body, body_length                   the BODY
+ *   w, h, planes, masking, compression  the fields of the header
+ *   view_mode                           the bits of CAMG, 0 if there is none
+ *   palette, palette_length             the palette, three bytes a colour
+ *   frame, frame_length                 the frame
+ *   place                               out: the place of 27 and 26 in the BODY
+ *   leftover                            out: the bytes of the BODY after the last line
+ */
+size_t ilbm_body_colour_frame(const uint8_t *body, size_t body_length,
+                              uint16_t w, uint16_t h, uint8_t planes,
+                              uint8_t masking, uint8_t compression,
+                              uint32_t view_mode, const uint8_t *palette,
+                              size_t palette_length, uint8_t *frame,
+                              size_t frame_length, size_t *place,
+                              size_t *leftover);
+
+/*
+ * Writes any palette as 64 triples, as ilbm_triples does. Refusals: 32 if there
+ * is room for fewer than 192 bytes; it changes no byte.
+ *
+ *   palette, palette_length  the palette, three bytes a colour
+ *   planes                   the planes of the header
+ *   view_mode                the bits of CAMG, 0 if there is none
+ *   triples, triples_length  the triples
+ */
+size_t ilbm_palette_triples(const uint8_t *palette, size_t palette_length,
+                            uint8_t planes, uint32_t view_mode,
+                            uint8_t *triples, size_t triples_length);
+
+/*
  * Packs one row by ByteRun1. Refusals: 31 if the row hasn't 1 to 8,192 bytes,
  * then 32 if the result is longer than the buffer. row_length +
  * (row_length + 127) / 128 bytes are always enough.
@@ -559,6 +674,7 @@ static inline const char *florinhado_meaning(size_t number)
     case 43: return "compression 2 or more: only 0 and 1 are known";
     case 44: return "masking 3, a lasso: its shape is not worked out";
     case 45: return "a shape with a byte over 1 or of a wrong length";
+    case 46: return "CAMG bit 11, hold-and-modify, with other than 6 or 8 planes";
     default: return "unknown number";
     }
 }

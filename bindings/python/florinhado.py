@@ -52,12 +52,29 @@ Traceback (most recent call last):
     ...
 florinhado.Refused: refusal 45 at 0: a shape with a byte over 1 or of a wrong length
 
+A picture has colours, red, green, blue for each pixel, by its palette and the view modes of
+CAMG. Bit 11 with 6 or 8 planes is hold-and-modify: the two high bits of a colour number choose
+0 the palette's entry of the other bits v, 1 a new blue, 2 a new red, 3 a new green, and the
+other parts are those of the pixel to the left, of (0, 0, 0) for a line's first. A part is 17 v
+with 6 planes, 4 v + v // 16 with 8. Bit 7 with 6 planes and no bit 11 is half-bright: number 32 +
+i has entry i with each part halved. In any other picture a number has its entry of the palette.
+An entry that the palette hasn't whole is (0, 0, 0).
+
+>>> with open("../../samples/colours.iff") as file:
+...     for picture in file.pictures()[:4]:
+...         print([line.hex(" ", -3) for line in picture.colour_lines()])
+['aa0000 ff8000 ff80ff ff11ff', '0000ff 000000 ff0000 ff0000']
+['ff0000 ff003c ff413c 0040ff', '000082 112233 11ff33 00ff33']
+['ff8000 7f4000 0040ff 00207f', '112233 081119 000000 000000']
+['ff8000 000000 0040ff 000000', '112233 000000 000000 000000']
+
 Every call on a picture is refused by the file's structure, 1 to 12; then with 20 if there
 is no such picture, 21 if no BMHD counts, 22 for several BODYs, 23 for a property of a
 wrong size; then for the header: 41 nPlanes over 8, 42 masking over 3, 43 compression over
 1, 24 w, h or nPlanes 0 with a BODY. They are tried in this order. The calls on its rows
-have more: 25 for no BODY, 29 for a start place beyond its end, 44 where a shape is asked for
-and masking is 3, 27 and 26 with the place in the BODY.
+have more: 25 for no BODY, 46 where colours are asked for and CAMG has bit 11 with other than 6
+or 8 planes, 29 for a start place beyond the BODY's end, 44 where a shape is asked for and
+masking is 3, 27 and 26 with the place in the BODY.
 
 >>> file = pathlib.Path("../../samples/headers.iff").read_bytes()
 >>> frame(file, 2)
@@ -69,7 +86,8 @@ florinhado.Refused: refusal 43 at 0: compression 2 or more: only 0 and 1 are kno
 ...         call(file, picture)
 ...     except Refused as refused:
 ...         return refused.number
->>> calls = header, grab, destination, sprite, view_mode, palette, scan_line, frame, shape_line, shape_frame
+>>> calls = [header, grab, destination, sprite, view_mode, palette, scan_line, frame, shape_line, shape_frame]
+>>> calls += [colour_line, colour_frame, triples]
 >>> [{refusal(call, picture) for call in calls} for picture in range(6)]
 [{41}, {42}, {43}, {24}, {41}, {None}]
 """
@@ -121,6 +139,7 @@ MEANINGS = {
     43: "compression 2 or more: only 0 and 1 are known",
     44: "masking 3, a lasso: its shape is not worked out",
     45: "a shape with a byte over 1 or of a wrong length",
+    46: "CAMG bit 11, hold-and-modify, with other than 6 or 8 planes",
 }
 
 
@@ -319,6 +338,10 @@ _ilbm_frame = _declare("ilbm_frame", _PICTURE + _BYTES, [_SIZE])
 _SHAPED = _BYTES * 2  # colour numbers and their shape
 _ilbm_shape_line = _declare("ilbm_shape_line", _PICTURE + [_SIZE] + _SHAPED, [_SIZE])
 _ilbm_shape_frame = _declare("ilbm_shape_frame", _PICTURE + _SHAPED, [_SIZE])
+_COLOURED = _BYTES * 2  # the palette, and room for colours or triples
+_ilbm_colour_line = _declare("ilbm_colour_line", _PICTURE + [_SIZE] + _COLOURED, [_SIZE])
+_ilbm_colour_frame = _declare("ilbm_colour_frame", _PICTURE + _COLOURED, [_SIZE])
+_ilbm_triples = _declare("ilbm_triples", _PICTURE + _COLOURED, [])
 _ilbm_pictures = _declare("ilbm_pictures", _BYTES + [ctypes.POINTER(_SIZE), _SIZE], [_SIZE])
 _ilbm_bmhd = _declare("ilbm_bmhd", _BYTES, _HEADER, placed=False)
 _LAYOUT = [_BYTE] * 3  # planes, masking, compression
@@ -327,6 +350,10 @@ _ilbm_body_frame = _declare("ilbm_body_frame", _BYTES + [_WORD] * 2 + _LAYOUT + 
 _MASKED = _LAYOUT + [_WORD]  # the transparent colour too
 _ilbm_body_shape_line = _declare("ilbm_body_shape_line", _BYTES + [_WORD] + _MASKED + [_SIZE] + _SHAPED, [_SIZE])
 _ilbm_body_shape_frame = _declare("ilbm_body_shape_frame", _BYTES + [_WORD] * 2 + _MASKED + _SHAPED, [_SIZE])
+_MODED = _LAYOUT + [_LONG] + _BYTES  # the view modes and the palette too
+_ilbm_body_colour_line = _declare("ilbm_body_colour_line", _BYTES + [_WORD] + _MODED + [_SIZE] + _BYTES, [_SIZE])
+_ilbm_body_colour_frame = _declare("ilbm_body_colour_frame", _BYTES + [_WORD] * 2 + _MODED + _BYTES, [_SIZE])
+_ilbm_palette_triples = _declare("ilbm_palette_triples", _BYTES + [_BYTE, _LONG] + _BYTES, [], placed=False)
 _byterun_pack = _declare("byterun_pack", _BYTES * 2, [_SIZE], placed=False)
 _FIELDS = _HEADER[:7] + _HEADER[8:]  # without pad1
 _ilbm_write = _declare("ilbm_write", _FIELDS + _BYTES * 4, [_SIZE], placed=False)
@@ -473,6 +500,76 @@ def _two(size):
     return [ctypes.create_string_buffer(size or 1) for _ in range(2)]
 
 
+def colour_line(file, picture, start=0, default=b""):
+    """A scan line in colours, three bytes for each pixel, and the next line's place in the BODY.
+
+    The default is the palette where no CMAP counts. Refused with 46 for hold-and-modify with
+    other than 6 or 8 planes.
+
+    >>> file = pathlib.Path("../../samples/colours.iff").read_bytes()
+    >>> row, following = colour_line(file, 0)
+    >>> row.hex(" ", -3), following
+    ('aa0000 ff8000 ff80ff ff11ff', 12)
+    """
+    with _lent(file) as lent, _lent(default) as colours:
+        size = 3 * Header(*_ilbm_header(*lent, picture)[:-2]).width
+        row = ctypes.create_string_buffer(size or 1)
+        (following,) = _ilbm_colour_line(*lent, picture, start, *colours, row, size)
+    return row.raw[:size], following
+
+
+def colour_frame(file, picture, default=b""):
+    """All scan lines in colours; Refused with 46 as colour_line.
+
+    >>> file = pathlib.Path("../../samples/colours.iff").read_bytes()
+    >>> colour_frame(file, 4)
+    Traceback (most recent call last):
+        ...
+    florinhado.Refused: refusal 46 at 0: CAMG bit 11, hold-and-modify, with other than 6 or 8 planes
+    """
+    with _lent(file) as lent, _lent(default) as colours:
+        fields = Header(*_ilbm_header(*lent, picture)[:-2])
+        size = 3 * fields.width * fields.height
+        room = ctypes.create_string_buffer(size or 1)
+        _ilbm_colour_frame(*lent, picture, *colours, room, size)
+    return room.raw[:size]
+
+
+_TRIPLES = 192  # bytes
+
+
+def triples(file, picture, default=b""):
+    """The palette of a picture, or the default where no CMAP counts, as 64 triples.
+
+    Those of a half-bright picture are entries 0 to 31 and their halves, those of any other the
+    first 64. An entry that isn't there whole is (0, 0, 0).
+
+    >>> file = pathlib.Path("../../samples/colours.iff").read_bytes()
+    >>> triples(file, 2)[1], triples(file, 2)[33]
+    ((255, 128, 0), (127, 64, 0))
+    """
+    room = ctypes.create_string_buffer(_TRIPLES)
+    with _lent(file) as lent, _lent(default) as colours:
+        _ilbm_triples(*lent, picture, *colours, room, _TRIPLES)
+    return _in_threes(room.raw)
+
+
+def palette_triples(palette, planes, view_mode=0):
+    """Any palette as 64 triples, as those of a picture with so many planes and these view modes.
+
+    >>> palette_triples(bytes(range(90)), 6, 0x80)[29:34]
+    [(87, 88, 89), (0, 0, 0), (0, 0, 0), (0, 0, 1), (1, 2, 2)]
+    """
+    room = ctypes.create_string_buffer(_TRIPLES)
+    with _lent(palette) as colours:
+        _ilbm_palette_triples(*colours, planes, view_mode, room, _TRIPLES)
+    return _in_threes(room.raw)
+
+
+def _in_threes(data):
+    return list(zip(data[::3], data[1::3], data[2::3]))
+
+
 def bmhd(data):
     """The fields of a BMHD by its bytes alone; Refused with 23 unless it has 20.
 
@@ -550,6 +647,39 @@ def body_shape_frame(body, fields):
     with _lent(body) as lent:
         _ilbm_body_shape_frame(*lent, *given, room, size, shape, size)
     return room.raw[:size], shape.raw[:size]
+
+
+def body_colour_line(body, fields, view_mode, palette, start=0):
+    """A scan line of any bytes as a BODY in colours, and the next line's place.
+
+    By the view modes of CAMG, 0 where there is none, and a palette. Refused as body_line, and
+    with 46 for hold-and-modify with other than 6 or 8 planes.
+
+    >>> fields = Header(width=3, planes=2)
+    >>> row, following = body_colour_line(bytes.fromhex("a0006000"), fields, 0, bytes(range(9)))
+    >>> row.hex(" ", -3), following
+    ('030405 060708 000000', 4)
+    """
+    size = 3 * fields.width
+    row = ctypes.create_string_buffer(size or 1)
+    with _lent(body) as lent, _lent(palette) as colours:
+        given = fields.width, *_layout(fields), view_mode, *colours, start
+        (following,) = _ilbm_body_colour_line(*lent, *given, row, size)
+    return row.raw[:size], following
+
+
+def body_colour_frame(body, fields, view_mode, palette):
+    """All scan lines of any bytes as a BODY in colours; Refused as body_colour_line, but without 29.
+
+    >>> body_colour_frame(bytes.fromhex("a000"), Header(width=3, height=1, planes=1), 0, b"abcdef")
+    b'defabcdef'
+    """
+    size = 3 * fields.width * fields.height
+    room = ctypes.create_string_buffer(size or 1)
+    with _lent(body) as lent, _lent(palette) as colours:
+        given = fields.width, fields.height, *_layout(fields), view_mode, *colours
+        _ilbm_body_colour_frame(*lent, *given, room, size)
+    return room.raw[:size]
 
 
 _FEW = 4096  # places of the table that is lent first
@@ -762,6 +892,42 @@ class Picture:
             rows, shapes = zip(*self.lines_with_shape())
             return b"".join(rows), b"".join(shapes)
         return body_shape_frame(body, fields)
+
+    def colour_line(self, start=0, default=b""):
+        """A scan line in colours, three bytes for each pixel, and the next line's place in the BODY."""
+        return body_colour_line(self.body(), *self._coloured(default), start)
+
+    def colour_lines(self, default=b""):
+        """The scan lines in colours in turn, up to the first that is refused."""
+        body, (fields, *by) = self.body(), self._coloured(default)
+        start = 0
+        for _ in range(fields.height):
+            row, start = body_colour_line(body, fields, *by, start)
+            yield row
+
+    def colour_frame(self, default=b""):
+        """All scan lines in colours; Refused with 46 for hold-and-modify with other than 6 or 8 planes.
+
+        >>> open("../../samples/colours.iff").picture(2).colour_frame()[:6].hex(" ", -3)
+        'ff8000 7f4000'
+        """
+        body, (fields, *by) = self.body(), self._coloured(default)
+        if _too_short(body, fields):
+            return b"".join(self.colour_lines(default))
+        return body_colour_frame(body, fields, *by)
+
+    def triples(self, default=b""):
+        """The palette, or the default where no CMAP counts, as 64 triples.
+
+        >>> open("../../samples/colours.iff").picture(2).triples()[32:34]
+        [(8, 17, 25), (127, 64, 0)]
+        """
+        fields, mode, colours = self._coloured(default)
+        return palette_triples(colours, fields.planes, mode)
+
+    def _coloured(self, default):
+        """The header, the view modes and the palette."""
+        return self.header().value, self.view_mode().value, self.palette(default).value
 
 
 def _too_short(body, fields):

@@ -24,6 +24,8 @@ pub struct Answers {
     palette: Told<Vec<u8>>,
     /// Where the CMAP that counts has its data in the file.
     extent: Option<(usize, usize)>,
+    /// The palette as triples.
+    triples: Result<[[u8; 3]; 64], Refused>,
     pub rows: RowAnswers,
 }
 
@@ -39,6 +41,7 @@ impl Answers {
             view_mode: florinhado::view_mode(file, picture),
             extent: palette.ok().and_then(|told| extent(file, &told)),
             palette: palette.map(bytes),
+            triples: florinhado::triples(file, picture, &asked.default),
             rows: RowAnswers::of(&ByNumber(file, picture), asked),
         }
     }
@@ -63,6 +66,7 @@ impl Answers {
             view_mode: picture.view_mode(),
             extent: palette.ok().and_then(|told| extent(file, &told)),
             palette: palette.map(bytes),
+            triples: picture.triples(&asked.default),
             rows: RowAnswers::of(picture, asked),
         }
     }
@@ -86,6 +90,7 @@ impl Answers {
             palette: palette.and_then(|bytes| {
                 told.map(|told| Property { value: bytes.to_vec(), origin: origin(told.colour_map.origin) })
             }),
+            triples: second::triples(file, picture, &asked.default, 192).map_err(refused),
             rows: RowAnswers::of(&BySecond(file, picture), asked),
         }
     }
@@ -100,6 +105,7 @@ impl Answers {
             view_mode: Err(refused),
             palette: Err(refused),
             extent: None,
+            triples: Err(refused),
             rows: RowAnswers::of(&refused, asked),
         }
     }

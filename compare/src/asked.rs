@@ -1,22 +1,25 @@
 //! What is asked of a picture beside its number.
 
 use florinhado::Shaped;
+use second::generate::default_palette;
 use second::random::Random;
 use second::{Properties, Refused};
 
-/// A frame of more bytes is only asked for with a wrong length.
-const GREATEST_FRAME: usize = 1 << 26;
+/// A frame of more pixels is only asked for with a wrong length.
+const GREATEST_FRAME: usize = 1 << 24;
 
 /// The inputs of every call on one picture.
 pub struct Asked {
     pub picture: usize,
     /// The default palette.
     pub default: Vec<u8>,
-    /// The start places of scan lines with the rows lent for them, without and with a shape.
+    /// The start places of scan lines with the rows lent for them, without and with a shape, and in colours.
     pub lines: Vec<(usize, Vec<u8>)>,
     pub shape_lines: Vec<(usize, Shaped)>,
+    pub colour_lines: Vec<(usize, Vec<u8>)>,
     pub frames: Vec<Vec<u8>>,
     pub shape_frames: Vec<Shaped>,
+    pub colour_frames: Vec<Vec<u8>>,
     /// Whether the first of each frames has the right length.
     pub is_whole: bool,
 }
@@ -33,15 +36,16 @@ impl Asked {
         let (width, height) = fields.map_or((5, 1), |(w, h)| (usize::from(w), usize::from(h)));
         let is_whole = width * height <= GREATEST_FRAME;
         let frame = if is_whole { width * height } else { 1 };
-        let count = random.below(3) * 3;
         let places = starts(random, file, told, width);
         Asked {
             picture,
-            default: random.bytes(count),
+            default: default_palette(random),
             lines: lines(random, &places, width),
             shape_lines: shape_lines(random, &places, width),
+            colour_lines: lines(random, &places, 3 * width),
             frames: lengths(random, frame).map(|length| random.bytes(length)).to_vec(),
             shape_frames: shapes(random, frame).to_vec(),
+            colour_frames: lengths(random, 3 * frame).map(|length| random.bytes(length)).to_vec(),
             is_whole,
         }
     }

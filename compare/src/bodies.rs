@@ -2,17 +2,20 @@
 
 use crate::borrowed::same;
 use crate::chunks::{chunk, group, Fields};
+use crate::{body_colour_frame, body_colour_line, colour_frame, colour_line};
 use crate::{body_frame, body_line, body_shape_frame, body_shape_line, frame, line, shape_frame, shape_line};
 use florinhado::{Header, Refused};
 use second::random::Random;
-use second::Lent;
+use second::{Colouring, Lent};
 use std::collections::BTreeSet;
 
-/// A FORM ILBM of BMHD and BODY.
+/// A FORM ILBM of BMHD, CAMG and BODY, and a palette of the caller's.
 pub struct Picture {
     pub file: Vec<u8>,
     fields: Fields,
     transparent: u16,
+    view_modes: u32,
+    palette: Vec<u8>,
     body: Vec<u8>,
 }
 
@@ -131,7 +134,7 @@ pub fn picture(random: &mut Random) -> Picture {
     let fields = Fields {
         width: width as u16,
         height: height as u16,
-        planes: random.between(1, 8) as u8,
+        planes: random.pick(&[1, 2, 3, 4, 5, 6, 6, 7, 8, 8]),
         masking: random.pick(&[0, 1, 1, 2, 2, 3]),
         compression: random.pick(&[0, 1, 1, 1, 1]),
     };
@@ -141,14 +144,17 @@ pub fn picture(random: &mut Random) -> Picture {
     let header = fields.bmhd_with(others);
     let rows = height * usize::from(fields.planes + u8::from(fields.masking == 1));
     let body = body(random, fields.compression, rows, width.div_ceil(16) * 2);
-    let members = [header, chunk(b"BODY", &body)].concat();
-    Picture { file: group(b"FORM", b"ILBM", &members), fields, transparent, body }
+    let view_modes: u32 = random.pick(&[0, 0x80, 0x800, 0x800, 0x880]);
+    let modes = chunk(b"CAMG", &view_modes.to_be_bytes());
+    let file = group(b"FORM", b"ILBM", &[header, modes, chunk(b"BODY", &body)].concat());
+    let bytes = random.pick(&[0, 47, 48, 96, 192, 768]);
+    Picture { file, fields, transparent, view_modes, palette: random.bytes(bytes), body }
 }
 
 impl Picture {
     /// Compares the frame, and lines from the start, from any place, from the
     /// frame's fault, from the end and beyond it; each of the file and of the
-    /// BODY alone, and with its shape.
+    /// BODY alone, with its shape, and in colours.
     pub fn compare(&self, random: &mut Random, faults: &mut Faults) -> Result<(), String> {
         let told = self.frame(random)?;
         if let Some(fault) = faults.of(told) {
@@ -174,6 +180,10 @@ impl Picture {
         same("frame with its shape", shaped, self.shaped(told))?;
         let alone = body_shape_frame::ask(&self.body, &self.header(), both, random)?;
         same("frame of the BODY with its shape", alone, shaped)?;
+        let coloured = colour_frame::ask(&self.file, 0, &self.palette, 3 * size, random)?;
+        same("frame in colours", coloured, self.coloured(told))?;
+        let alone = body_colour_frame::ask(&self.body, &self.header(), &self.by(), 3 * size, random)?;
+        same("frame of the BODY in colours", alone, coloured)?;
         Ok(told)
     }
 
@@ -186,6 +196,10 @@ impl Picture {
         same("line with its shape", shaped, self.shaped(told))?;
         let alone = body_shape_line::ask(&self.body, &self.header(), start, both, random)?;
         same("line of the BODY with its shape", alone, shaped)?;
+        let coloured = colour_line::ask(&self.file, 0, start, &self.palette, 3 * width, random)?;
+        same("line in colours", coloured, self.coloured(told))?;
+        let alone = body_colour_line::ask(&self.body, &self.header(), &self.by(), start, 3 * width, random)?;
+        same("line of the BODY in colours", alone, coloured)?;
         Ok(told)
     }
 
@@ -195,6 +209,19 @@ impl Picture {
             (3, number) if number != 29 => Refused { number: 44, place: 0 },
             _ => told,
         }
+    }
+
+    /// What is told in colours where this is told without: 46 comes before all that a BODY is refused for.
+    fn coloured(&self, told: Refused) -> Refused {
+        match self.fields.planes {
+            6 | 8 => told,
+            _ if self.view_modes & 0x800 == 0 => told,
+            _ => Refused { number: 46, place: 0 },
+        }
+    }
+
+    fn by(&self) -> Colouring<'_> {
+        Colouring { view_modes: self.view_modes, palette: &self.palette }
     }
 
     fn header(&self) -> Header {

@@ -1,6 +1,6 @@
 //! ilbm_body_frame.
 
-use crate::borrowed::{numbers, refused, same, Buffer};
+use crate::borrowed::{numbers, refused, same, told, Buffer};
 use crate::numbers::{HEADER, ROWS};
 use crate::{Call, Outcome, Subject, Tally};
 use florinhado::{calls, Header, Refused};
@@ -51,10 +51,7 @@ pub(crate) fn ask(
         &mut place,
         &mut leftover,
     );
-    let told = match &wanted {
-        Ok(frame) => [0, 0, frame.leftover],
-        Err(refused) => [refused.number, refused.place, 0],
-    };
+    let told = told(&wanted, |frame| frame.leftover);
     same("number, place, leftover", [number, place, leftover], told)?;
     frame.compare(result)?;
     let mut frame = Buffer::new(random, length);

@@ -1,6 +1,6 @@
 //! ilbm_body_line.
 
-use crate::borrowed::{numbers, refused, same, Buffer};
+use crate::borrowed::{numbers, refused, same, told, Buffer};
 use crate::numbers::{HEADER, ROWS, START};
 use crate::{Call, Outcome, Subject, Tally};
 use florinhado::{calls, Header, Refused};
@@ -53,10 +53,7 @@ pub(crate) fn ask(
         &mut place,
         &mut next,
     );
-    let told = match &wanted {
-        Ok(line) => [0, 0, line.next],
-        Err(refused) => [refused.number, refused.place, 0],
-    };
+    let told = told(&wanted, |line| line.next);
     same("number, place, next", [number, place, next], told)?;
     row.compare(result)?;
     let mut row = Buffer::new(random, length);

@@ -1,7 +1,7 @@
 //! ilbm_body_shape_frame.
 
 use crate::body_shape_line::{fields, layout};
-use crate::borrowed::{numbers, refused, same, Buffer, Buffers};
+use crate::borrowed::{numbers, refused, same, told, Buffer, Buffers};
 use crate::numbers::{HEADER, ROWS, SHAPE};
 use crate::{Call, Outcome, Subject, Tally};
 use florinhado::{calls, Header, Refused};
@@ -35,10 +35,7 @@ pub(crate) fn ask(body: &[u8], fields: &Header, lent: Lent, random: &mut Random)
     let wanted = second::body_shape_frame(body, &layout(fields), fields.transparent, fields.height, lent)
         .map_err(refused);
     let result = wanted.as_ref().ok().map(|frame| (&frame.pixels.colours[..], &frame.shape[..]));
-    let told = match &wanted {
-        Ok(frame) => [0, 0, frame.pixels.leftover],
-        Err(refused) => [refused.number, refused.place, 0],
-    };
+    let told = told(&wanted, |frame| frame.pixels.leftover);
     let [mut place, mut leftover] = numbers(random);
     let (mut bytes, mut both) = (Buffer::holding(random, body), Buffers::new(random, lent));
     let number = calls::ilbm_body_shape_frame(

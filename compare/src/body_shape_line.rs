@@ -1,6 +1,6 @@
 //! ilbm_body_shape_line.
 
-use crate::borrowed::{numbers, refused, same, Buffer, Buffers};
+use crate::borrowed::{numbers, refused, same, told, Buffer, Buffers};
 use crate::numbers::{HEADER, ROWS, SHAPE, START};
 use crate::{Call, Outcome, Subject, Tally};
 use florinhado::{calls, Header, Refused};
@@ -54,10 +54,7 @@ pub(crate) fn ask(
     let wanted =
         second::body_shape_line(body, &layout(fields), fields.transparent, start, lent).map_err(refused);
     let result = wanted.as_ref().ok().map(|line| (&line.pixels.colours[..], &line.shape[..]));
-    let told = match &wanted {
-        Ok(line) => [0, 0, line.pixels.next],
-        Err(refused) => [refused.number, refused.place, 0],
-    };
+    let told = told(&wanted, |line| line.pixels.next);
     let [mut place, mut next] = numbers(random);
     let (mut bytes, mut both) = (Buffer::holding(random, body), Buffers::new(random, lent));
     let number = calls::ilbm_body_shape_line(

@@ -106,6 +106,14 @@ pub fn refused(refused: second::Refused) -> florinhado::Refused {
     florinhado::Refused { number: refused.number as usize, place: refused.place }
 }
 
+/// Number, place and what else a call tells, which is 0 beside a refusal.
+pub fn told<T>(wanted: &Result<T, florinhado::Refused>, value: impl Fn(&T) -> usize) -> [usize; 3] {
+    match wanted {
+        Ok(wanted) => [0, 0, value(wanted)],
+        Err(refused) => [refused.number, refused.place, 0],
+    }
+}
+
 /// Numbers for a call to write to, with any values in them.
 pub fn numbers<const COUNT: usize>(random: &mut Random) -> [usize; COUNT] {
     std::array::from_fn(|_| random.word() as usize)

@@ -34,7 +34,12 @@ fn whole(opened: &Result<File, Refused>, asked: &Asked, by_number: &Answers) -> 
     let wanted = by_number.rows.shape_frame();
     same("frame with its shape", picture.frame_with_shape().as_ref().map_err(|refused| *refused), wanted)?;
     let lines: Result<Vec<_>, _> = picture.lines_with_shape().collect();
-    same("lines with their shape", lines.map(joined).as_ref().map_err(|refused| *refused), wanted)
+    same("lines with their shape", lines.map(joined).as_ref().map_err(|refused| *refused), wanted)?;
+    let wanted = by_number.rows.colour_frame();
+    let frame = picture.colour_frame(&asked.default);
+    same("frame in colours", frame.as_deref().map_err(|refused| *refused), wanted)?;
+    let lines: Result<Vec<_>, _> = picture.colour_lines(&asked.default).collect();
+    same("lines in colours", lines.map(|lines| lines.concat()), wanted.map(<[u8]>::to_vec))
 }
 
 fn joined(lines: Vec<Shaped>) -> Shaped {

@@ -1,6 +1,7 @@
 //! The calls that are compared.
 
 use crate::{bmhd, body_frame, body_line, body_shape_frame, body_shape_line, picture_table};
+use crate::{body_colour_frame, body_colour_line, colour_frame, colour_line, palette_triples, triples};
 use crate::{check, copy, data, pictures, reader, record, table, Outcome, Subject, Tally};
 use crate::{dest, frame, grab, header, line, pack, palette, sprite, view_mode, write};
 use crate::{shape_frame, shape_line};
@@ -36,12 +37,18 @@ pub const CALLS: &[Call] = &[
     frame::CALL,
     shape_line::CALL,
     shape_frame::CALL,
+    colour_line::CALL,
+    colour_frame::CALL,
+    triples::CALL,
     picture_table::CALL,
     bmhd::CALL,
     body_line::CALL,
     body_frame::CALL,
     body_shape_line::CALL,
     body_shape_frame::CALL,
+    body_colour_line::CALL,
+    body_colour_frame::CALL,
+    palette_triples::CALL,
     pack::CALL,
     write::CALL,
 ];

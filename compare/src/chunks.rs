@@ -18,6 +18,14 @@ pub fn group(name: &[u8; 4], kind: &[u8; 4], members: &[u8]) -> Vec<u8> {
     [&header(name, 4 + members.len())[..], kind, members].concat()
 }
 
+/// The file of one picture whose BMHD stands first, with a CAMG behind it and no byte after its end.
+pub fn with_modes(file: &[u8], modes: u32) -> Vec<u8> {
+    const AFTER_BMHD: usize = 40;
+    let end = second::check(file).map_or(0, |accepted| accepted.end);
+    let (before, after) = (&file[12..AFTER_BMHD], &file[AFTER_BMHD..end]);
+    group(b"FORM", b"ILBM", &[before, &chunk(b"CAMG", &modes.to_be_bytes()), after].concat())
+}
+
 /// The fields of a BMHD that say how its BODY is read.
 #[derive(Clone, Copy)]
 pub struct Fields {

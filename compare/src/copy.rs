@@ -1,14 +1,14 @@
 //! iff_clean_copy.
 
 use crate::borrowed::{numbers, refused, same, Buffer};
-use crate::numbers::STRUCTURE;
+use crate::numbers::{ROOM, STRUCTURE};
 use crate::{Call, Outcome, Subject, Tally};
 use florinhado::calls;
 use second::random::Random;
 
 const NAME: &str = "iff_clean_copy";
 
-pub const CALL: Call = Call { name: NAME, numbers: &[STRUCTURE, &[32]], compare, run };
+pub const CALL: Call = Call { name: NAME, numbers: &[STRUCTURE, ROOM], compare, run };
 
 fn run(file: &[u8]) {
     florinhado::clean_copy(file, &mut vec![1; file.len()]).unwrap();

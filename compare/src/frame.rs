@@ -1,6 +1,6 @@
 //! ilbm_frame.
 
-use crate::borrowed::{numbers, refused, same, Buffer};
+use crate::borrowed::{numbers, refused, same, told, Buffer};
 use crate::numbers::{HEADER, NO_BODY, PICTURE, ROWS, STRUCTURE};
 use crate::{Call, Outcome, Subject, Tally};
 use florinhado::{calls, Refused};
@@ -36,10 +36,7 @@ pub(crate) fn ask(
     let [mut place, mut leftover] = numbers(random);
     let mut buffer = Buffer::new(random, length);
     let number = calls::ilbm_frame(file, picture, buffer.slice(), &mut place, &mut leftover);
-    let told = match &wanted {
-        Ok(frame) => [0, 0, frame.leftover],
-        Err(refused) => [refused.number, refused.place, 0],
-    };
+    let told = told(&wanted, |frame| frame.leftover);
     same("number, place, leftover", [number, place, leftover], told)?;
     buffer.compare(result)?;
     let mut buffer = Buffer::new(random, length);

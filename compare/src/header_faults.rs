@@ -66,8 +66,10 @@ fn headers() -> impl Iterator<Item = Vec<u8>> {
     })
 }
 
-/// Pictures with this header, their own or shared, with a BODY or without.
+/// Pictures with this header, their own or shared, with a BODY or without, half of them by hold-and-modify.
 fn files(random: &mut Random, header: &[u8]) -> [Vec<u8>; 4] {
+    let modes: u32 = random.pick(&[0, 0x800]);
+    let header = &[header, &chunk(b"CAMG", &modes.to_be_bytes())].concat();
     let body = chunk(b"BODY", &random.bytes(40));
     let own = |body: &[u8]| group(b"FORM", b"ILBM", &[header, body].concat());
     let shared = |body: &[u8]| {

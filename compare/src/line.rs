@@ -1,6 +1,6 @@
 //! ilbm_line.
 
-use crate::borrowed::{numbers, refused, same, Buffer};
+use crate::borrowed::{numbers, refused, same, told, Buffer};
 use crate::numbers::{HEADER, NO_BODY, PICTURE, ROWS, START, STRUCTURE};
 use crate::{Call, Outcome, Subject, Tally};
 use florinhado::{calls, Refused};
@@ -37,10 +37,7 @@ pub(crate) fn ask(
     let [mut place, mut next] = numbers(random);
     let mut buffer = Buffer::new(random, length);
     let number = calls::ilbm_line(file, picture, start, buffer.slice(), &mut place, &mut next);
-    let told = match &wanted {
-        Ok(line) => [0, 0, line.next],
-        Err(refused) => [refused.number, refused.place, 0],
-    };
+    let told = told(&wanted, |line| line.next);
     same("number, place, next", [number, place, next], told)?;
     buffer.compare(result)?;
     let mut buffer = Buffer::new(random, length);

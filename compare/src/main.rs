@@ -4,7 +4,7 @@
 
 use compare::fixed::{examples, variations};
 use compare::header_faults::HeaderFaults;
-use compare::{dump, worked, Brushes, Origins, Subject, Tally};
+use compare::{brushes, dump, modes, worked, Origins, Subject, Tally};
 use second::generate;
 use second::random::Random;
 use std::process::ExitCode;
@@ -19,14 +19,15 @@ fn main() -> ExitCode {
     let files = words.get(1).copied().unwrap_or(FILES);
     let start = Instant::now();
     let mut tally = Tally::default();
-    let (mut origins, mut brushes) = (Origins::default(), Brushes::default());
+    let (mut origins, mut shapes, mut colours) = (Origins::default(), brushes::none(), modes::none());
     let compared = compare_examples(&mut tally)
         .and_then(|()| compare_worked(&mut tally))
         .and_then(|()| compare_variations(&mut tally))
         .and_then(|()| {
             compare_generated(&mut tally, seed, files, |subject| {
                 origins.count(subject);
-                brushes.count(subject);
+                brushes::count(&mut shapes, subject);
+                modes::count(&mut colours, subject);
             })
         })
         .and_then(|()| HeaderFaults::compare(&mut Random::new(seed)));
@@ -38,8 +39,8 @@ fn main() -> ExitCode {
         }
     };
     println!("seed {seed}, {files} files, no difference, {:.1} s", start.elapsed().as_secs_f64());
-    print!("{}{}{}{}", tally.text(), origins.text(), brushes.text(), faults.text());
-    let rare = [tally.rare(), origins.rare(), brushes.rare(), faults.rare()].concat();
+    print!("{}{}{}{}{}", tally.text(), origins.text(), shapes.text(), colours.text(), faults.text());
+    let rare = [tally.rare(), origins.rare(), shapes.rare(), colours.rare(), faults.rare()].concat();
     if files >= FILES && !rare.is_empty() {
         println!("a hundred times or less: {}", rare.join(", "));
         return ExitCode::FAILURE;

@@ -12,11 +12,13 @@ pub const NO_BODY: &[usize] = &[25];
 pub const ROWS: &[usize] = &[28, 27, 26];
 pub const START: &[usize] = &[29];
 
-/// What its shape alone is refused for.
+/// What its shape alone is refused for, and what its colours are.
 pub const SHAPE: &[usize] = &[44];
+pub const COLOURS: &[usize] = &[46];
 
-/// A table with too few places.
+/// A table with too few places, and a buffer with too few bytes.
 pub const PLACES: &[usize] = &[13];
+pub const ROOM: &[usize] = &[32];
 
 /// Every number of a call on a property.
 pub const OF_PROPERTY: &[&[usize]] = &[STRUCTURE, PICTURE, HEADER];

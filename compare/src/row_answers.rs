@@ -14,6 +14,8 @@ pub trait Rows {
     fn frame(&self, frame: &mut [u8]) -> Told;
     fn shape_line(&self, start: usize, lent: &mut Shaped) -> Told;
     fn shape_frame(&self, lent: &mut Shaped) -> Told;
+    fn colour_line(&self, start: usize, default: &[u8], row: &mut [u8]) -> Told;
+    fn colour_frame(&self, default: &[u8], frame: &mut [u8]) -> Told;
 }
 
 /// The calls on a picture's number.
@@ -35,6 +37,14 @@ impl Rows for ByNumber<'_> {
     fn shape_frame(&self, lent: &mut Shaped) -> Told {
         florinhado::shape_frame(self.0, self.1, &mut lent.colours, &mut lent.shape)
     }
+
+    fn colour_line(&self, start: usize, default: &[u8], row: &mut [u8]) -> Told {
+        florinhado::colour_line(self.0, self.1, start, default, row)
+    }
+
+    fn colour_frame(&self, default: &[u8], frame: &mut [u8]) -> Told {
+        florinhado::colour_frame(self.0, self.1, default, frame)
+    }
 }
 
 /// A picture of an opened file.
@@ -53,6 +63,14 @@ impl Rows for Picture<'_> {
 
     fn shape_frame(&self, lent: &mut Shaped) -> Told {
         self.frame_with_shape_into(&mut lent.colours, &mut lent.shape)
+    }
+
+    fn colour_line(&self, start: usize, default: &[u8], row: &mut [u8]) -> Told {
+        self.colour_line_into(start, default, row)
+    }
+
+    fn colour_frame(&self, default: &[u8], frame: &mut [u8]) -> Told {
+        self.colour_frame_into(default, frame)
     }
 }
 
@@ -83,6 +101,18 @@ impl Rows for BySecond<'_> {
         *lent = Shaped { colours: told.pixels.colours, shape: told.shape };
         Ok(told.pixels.leftover)
     }
+
+    fn colour_line(&self, start: usize, default: &[u8], row: &mut [u8]) -> Told {
+        let line = second::colour_line(self.0, self.1, start, default, row.len()).map_err(refused)?;
+        row.copy_from_slice(&line.colours);
+        Ok(line.next)
+    }
+
+    fn colour_frame(&self, default: &[u8], frame: &mut [u8]) -> Told {
+        let told = second::colour_frame(self.0, self.1, default, frame.len()).map_err(refused)?;
+        frame.copy_from_slice(&told.colours);
+        Ok(told.leftover)
+    }
 }
 
 /// Every call refuses, and what was lent is as it was.
@@ -102,6 +132,14 @@ impl Rows for Refused {
     fn shape_frame(&self, _: &mut Shaped) -> Told {
         Err(*self)
     }
+
+    fn colour_line(&self, _: usize, _: &[u8], _: &mut [u8]) -> Told {
+        Err(*self)
+    }
+
+    fn colour_frame(&self, _: &[u8], _: &mut [u8]) -> Told {
+        Err(*self)
+    }
 }
 
 fn lengths(lent: &Shaped) -> Lent {
@@ -115,6 +153,8 @@ pub struct RowAnswers {
     frames: Vec<(Told, Vec<u8>)>,
     shape_lines: Vec<(Told, Shaped)>,
     shape_frames: Vec<(Told, Shaped)>,
+    colour_lines: Vec<(Told, Vec<u8>)>,
+    colour_frames: Vec<(Told, Vec<u8>)>,
 }
 
 impl RowAnswers {
@@ -123,11 +163,16 @@ impl RowAnswers {
         let shape_line = |(start, lent): &(usize, Shaped)| told(lent, |lent| rows.shape_line(*start, lent));
         let frame = |frame: &Vec<u8>| told(frame, |frame| rows.frame(frame));
         let shape_frame = |lent: &Shaped| told(lent, |lent| rows.shape_frame(lent));
+        let colour_line =
+            |(start, row): &(usize, Vec<u8>)| told(row, |row| rows.colour_line(*start, &asked.default, row));
+        let colour_frame = |frame: &Vec<u8>| told(frame, |frame| rows.colour_frame(&asked.default, frame));
         RowAnswers {
             lines: asked.lines.iter().map(line).collect(),
             frames: asked.frames.iter().map(frame).collect(),
             shape_lines: asked.shape_lines.iter().map(shape_line).collect(),
             shape_frames: asked.shape_frames.iter().map(shape_frame).collect(),
+            colour_lines: asked.colour_lines.iter().map(colour_line).collect(),
+            colour_frames: asked.colour_frames.iter().map(colour_frame).collect(),
         }
     }
 
@@ -141,6 +186,12 @@ impl RowAnswers {
     pub fn shape_frame(&self) -> Result<&Shaped, Refused> {
         let (told, lent) = &self.shape_frames[0];
         told.map(|_| lent)
+    }
+
+    /// The same in colours.
+    pub fn colour_frame(&self) -> Result<&[u8], Refused> {
+        let (told, bytes) = &self.colour_frames[0];
+        told.map(|_| &bytes[..])
     }
 
     /// Whether a frame is shown.

@@ -1,6 +1,6 @@
 //! ilbm_shape_frame.
 
-use crate::borrowed::{numbers, refused, same, Buffers};
+use crate::borrowed::{numbers, refused, same, told, Buffers};
 use crate::numbers::{HEADER, NO_BODY, PICTURE, ROWS, SHAPE, STRUCTURE};
 use crate::{Call, Outcome, Subject, Tally};
 use florinhado::{calls, Refused};
@@ -29,10 +29,7 @@ fn compare(subject: &Subject, random: &mut Random, tally: &mut Tally) -> Outcome
 pub(crate) fn ask(file: &[u8], picture: usize, lent: Lent, random: &mut Random) -> Result<Refused, String> {
     let wanted = second::shape_frame(file, picture, lent).map_err(refused);
     let result = wanted.as_ref().ok().map(|frame| (&frame.pixels.colours[..], &frame.shape[..]));
-    let told = match &wanted {
-        Ok(frame) => [0, 0, frame.pixels.leftover],
-        Err(refused) => [refused.number, refused.place, 0],
-    };
+    let told = told(&wanted, |frame| frame.pixels.leftover);
     let [mut place, mut leftover] = numbers(random);
     let mut both = Buffers::new(random, lent);
     let (frame, shape) = (both.colours.slice(), both.shape.slice());

@@ -1,6 +1,6 @@
 //! ilbm_shape_line.
 
-use crate::borrowed::{numbers, refused, same, Buffers};
+use crate::borrowed::{numbers, refused, same, told, Buffers};
 use crate::numbers::{HEADER, NO_BODY, PICTURE, ROWS, SHAPE, START, STRUCTURE};
 use crate::{Call, Outcome, Subject, Tally};
 use florinhado::{calls, Refused};
@@ -35,10 +35,7 @@ pub(crate) fn ask(
 ) -> Result<Refused, String> {
     let wanted = second::shape_line(file, picture, start, lent).map_err(refused);
     let result = wanted.as_ref().ok().map(|line| (&line.pixels.colours[..], &line.shape[..]));
-    let told = match &wanted {
-        Ok(line) => [0, 0, line.pixels.next],
-        Err(refused) => [refused.number, refused.place, 0],
-    };
+    let told = told(&wanted, |line| line.pixels.next);
     let [mut place, mut next] = numbers(random);
     let mut both = Buffers::new(random, lent);
     let (row, shape) = (both.colours.slice(), both.shape.slice());

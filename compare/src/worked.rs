@@ -92,7 +92,8 @@ pub fn compare() -> Outcome {
     diagrams().into_iter().try_for_each(compare_diagram)?;
     compare_packed()?;
     compare_written()?;
-    compare_shapes()
+    compare_shapes()?;
+    compare_colours()
 }
 
 fn compare_line((file, known): Line) -> Outcome {
@@ -182,6 +183,43 @@ fn compare_shapes() -> Outcome {
         let length = florinhado::write_with_shape(&fields, b"", &[1, 2, 3], mask, &mut file);
         same("written with a shape", length, Ok(48 + rows.len()))?;
         same("its BODY", &file[48..48 + rows.len()], rows)?;
+    }
+    Ok(())
+}
+
+/// Two entries and a part of a third.
+const TWO_AND_CUT: [u8; 8] = [1, 2, 3, 4, 5, 7, 8, 9];
+
+/// Planes, view modes, the colour numbers of a line, and its colours.
+type Coloured = (u8, u32, &'static [u8], Vec<[u8; 3]>);
+
+/// Hold-and-modify by 6 planes and by 8, half-bright, half-bright with bit 11, and the palette alone.
+fn coloured() -> [Coloured; 5] {
+    let by_six = vec![[170, 0, 0], [4, 5, 7], [4, 5, 255], [170, 5, 255], [170, 17, 255], [0; 3], [0; 3]];
+    [
+        (6, 0x800, &[0x2a, 0x01, 0x1f, 0x2a, 0x31, 0x02, 0x30], by_six),
+        (8, 0x800, &[0xbf, 0x4f, 0xd0, 0x00], vec![[255, 0, 0], [255, 0, 60], [255, 65, 60], [1, 2, 3]]),
+        (6, 0x80, &[1, 33, 34], vec![[4, 5, 7], [2, 2, 3], [0; 3]]),
+        (6, 0x880, &[1, 33], vec![[4, 5, 7], [17, 5, 7]]),
+        (6, 0, &[1, 33, 2], vec![[4, 5, 7], [0; 3], [0; 3]]),
+    ]
+}
+
+/// Ask 5's rules on lines worked out by hand, and 46.
+fn compare_colours() -> Outcome {
+    for (planes, view_mode, numbers, known) in coloured() {
+        let fields = Header { width: numbers.len() as u16, height: 1, planes, ..Header::default() };
+        let mut file = [0; 64];
+        same("written", florinhado::write(&fields, b"", numbers, &mut file).is_ok(), true)?;
+        let rows = &file[48..48 + 2 * usize::from(planes)];
+        let mut shown = vec![[9; 3]; numbers.len()];
+        let told =
+            florinhado::body_colour_frame(rows, &fields, view_mode, &TWO_AND_CUT, shown.as_flattened_mut());
+        same("worked colours", told.map(|leftover| (leftover, shown)), Ok((0, known)))?;
+        let five = Header { planes: 5, ..fields };
+        let mut row = [9; 3];
+        let told = florinhado::body_colour_line(rows, &five, 0x800, &TWO_AND_CUT, 99, &mut row);
+        same("worked refusal", (told, row), (Err(Refused { number: 46, place: 0 }), [9; 3]))?;
     }
     Ok(())
 }

@@ -6,6 +6,7 @@ use compare::listings::{fill, Table};
 use compare::plain;
 use second::generate;
 use second::random::Random;
+use second::Colouring;
 
 const SEED: u64 = 1985;
 const FILES: usize = 20_000;
@@ -66,6 +67,36 @@ fn frames() {
                 assert_eq!(leftover.map(|leftover| second::Frame { colours: frame, leftover }), known);
             }
             read += usize::from(known.is_ok());
+        }
+    }
+    assert!(read > FILES / 20, "{read} frames read");
+}
+
+#[test]
+fn colours() {
+    let mut read = 0;
+    let mut random = Random::new(SEED);
+    for file in generated() {
+        for picture in 0.. {
+            let Ok(told) = second::properties(&file, picture) else { break };
+            let Some(body) = told.body.map(|range| &file[range]) else { continue };
+            let default = generate::default_palette(&mut random);
+            let pixels = usize::from(told.header.width) * usize::from(told.header.height);
+            let known = second::colour_frame(&file, picture, &default, 3 * pixels);
+            if known.as_ref().is_err_and(|refused| refused.number == 46) {
+                continue;
+            }
+            let palette = told.colour_map.value.map_or(&default[..], |range| &file[range]);
+            let by = Colouring { view_modes: told.view_modes.value.unwrap_or(0), palette };
+            let mut frame = vec![9; 3 * pixels];
+            let leftover = plain::colours_by_table(&told.header, &by, body, &mut frame);
+            assert_eq!(leftover.map(|leftover| second::Frame { colours: frame, leftover }), known);
+            let Ok(known) = known else { continue };
+            let numbers = second::frame(&file, picture, pixels).unwrap().colours;
+            let mut frame = vec![9; 3 * pixels];
+            plain::colours(&told.header, &by, &numbers, &mut frame);
+            assert_eq!(frame, known.colours);
+            read += 1;
         }
     }
     assert!(read > FILES / 20, "{read} frames read");

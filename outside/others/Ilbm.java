@@ -35,7 +35,7 @@ class Ilbm {
             String name = file.getName().replace(".ilbm", ".ppm");
             try {
                 Files.write(new File(to, name).toPath(), ppm(ImageIO.read(file)));
-            } catch (IIOException fault) {
+            } catch (IIOException | RuntimeException fault) {
                 System.err.println(file + ": " + fault.getMessage());
             }
         }

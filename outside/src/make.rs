@@ -2,6 +2,7 @@
 
 use crate::pbm::Pbm;
 use crate::picture::by_library;
+use crate::rule::OTHERS;
 use florinhado::Header;
 use second::random::Random;
 use std::fs;
@@ -107,16 +108,53 @@ fn save_brush(folder: &Path, name: &str, given: &Header, random: &mut Random) ->
     };
     save(folder, name, &masked(given, &palette, &colours, shape))?;
     let known = Pbm { width: given.width.into(), bits };
-    fs::write(folder.join(format!("{name}.pbm")), known.bytes()).map_err(|error| error.to_string())
+    put(folder, &format!("{name}.pbm"), &known.bytes())
 }
 
-/// The file, and the pixels that the library reads from it.
+/// Ways to colours, with the planes, the bits of CAMG and the palette's colours.
+const MODES: [(&str, u8, u32, usize); 4] =
+    [("held6", 6, 0x800, 16), ("held8", 8, 0x800, 64), ("both6", 6, 0x880, 16), ("half", 6, 0x80, 32)];
+
+/// A picture of each way, some widths and each compression, with a whole palette.
+pub fn colours(folder: &Path) -> Result<String, String> {
+    let mut random = Random::new(1992);
+    let mut count = 0;
+    for (name, planes, modes, entries) in MODES {
+        for compression in 0..2 {
+            for width in NARROW {
+                let given = fields(width, planes, compression);
+                let (palette, frame) = (random.bytes(3 * entries), frame(&mut random, &given));
+                let file = with_modes(&written(&given, &palette, &frame), modes);
+                let packing = ["plain", "packed"][usize::from(compression)];
+                save(folder, &format!("{name}_{packing}_{width}"), &file)?;
+                count += 1;
+            }
+        }
+    }
+    Ok(format!("{count} pictures by hold-and-modify and half-bright written\n"))
+}
+
+/// A picture with a CAMG behind its BMHD.
+fn with_modes(file: &[u8], modes: u32) -> Vec<u8> {
+    const AFTER_BMHD: usize = 40;
+    let (before, after) = (&file[8..AFTER_BMHD], &file[AFTER_BMHD..]);
+    chunk(b"FORM", &[before, &chunk(b"CAMG", &modes.to_be_bytes()), after].concat())
+}
+
+/// The file, and the pixels that the library reads from it; of hold-and-modify also those by the rules of
+/// other programs.
 fn save(folder: &Path, name: &str, file: &[u8]) -> Result<(), String> {
     let picture = by_library(file);
-    let shown = picture.ppm(picture.looked_up()).bytes();
-    let done = fs::write(folder.join(format!("{name}.ilbm")), file);
-    done.and_then(|()| fs::write(folder.join(format!("{name}.ppm")), shown))
-        .map_err(|error| error.to_string())
+    put(folder, &format!("{name}.ilbm"), file)?;
+    put(folder, &format!("{name}.ppm"), &picture.told()?.bytes())?;
+    for rule in OTHERS.iter().filter(|_| picture.held) {
+        put(folder, &format!("{name}.{}.ppm", rule.name), &picture.by_rule(rule)?.bytes())?;
+    }
+    Ok(())
+}
+
+fn put(folder: &Path, name: &str, bytes: &[u8]) -> Result<(), String> {
+    fs::write(folder.join(name), bytes).map_err(|error| format!("{name}: {error}"))
 }
 
 fn chunk(name: &[u8; 4], data: &[u8]) -> Vec<u8> {
@@ -125,7 +163,8 @@ fn chunk(name: &[u8; 4], data: &[u8]) -> Vec<u8> {
 
 /// Sound files that other programs read in their own way, or not at all: a
 /// second CMAP after the BODY, a picture in a CAT, one with a shared palette in a
-/// LIST, and one with a lasso.
+/// LIST, one with a lasso, and those whose palettes are longer or shorter than
+/// their modes have them.
 pub fn apart(folder: &Path) -> Result<String, String> {
     let given = fields(16, 2, 0);
     let frame: Vec<u8> = (0..32).map(|n| n % 4).collect();
@@ -141,5 +180,28 @@ pub fn apart(folder: &Path) -> Result<String, String> {
     for (name, file) in [("cmap_after_body", after), ("cat", cat), ("list", list), ("lasso", lasso)] {
         save(folder, name, &file)?;
     }
+    palettes_apart(folder)?;
     Ok(String::new())
+}
+
+/// All numbers of so many planes in turn, with any palette of so many colours and these bits of CAMG.
+const PALETTES: [(&str, u8, usize, u32); 7] = [
+    ("palette_of_12_for_16", 4, 12, 0),
+    ("no_palette", 4, 0, 0),
+    ("held_palette_of_12", 6, 12, 0x800),
+    ("half_palette_of_64", 6, 64, 0x80),
+    ("half_palette_of_16", 6, 16, 0x80),
+    ("half_with_5_planes", 5, 32, 0x80),
+    ("half_with_7_planes", 7, 64, 0x80),
+];
+
+fn palettes_apart(folder: &Path) -> Result<(), String> {
+    let mut random = Random::new(7);
+    for (name, planes, entries, modes) in PALETTES {
+        let given = Header { height: 1, masking: 0, ..fields(1 << planes, planes, 0) };
+        let numbers: Vec<u8> = (0..1 << planes).map(|n: usize| n as u8).collect();
+        let palette = random.bytes(3 * entries);
+        save(folder, name, &with_modes(&written(&given, &palette, &numbers), modes))?;
+    }
+    Ok(())
 }

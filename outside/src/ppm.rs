@@ -25,6 +25,16 @@ impl Ppm {
         Ok(Ppm { width, height, pixels: pixels.to_vec() })
     }
 
+    /// Fails at the first pixel that differs.
+    pub fn same_as(&self, shown: &Ppm) -> Result<(), String> {
+        if (self.width, self.height) != (shown.width, shown.height) {
+            let Ppm { width, height, .. } = self;
+            return Err(format!("{width} by {height}, the program has {} by {}", shown.width, shown.height));
+        }
+        let differ = (0..self.pixels.len()).find(|n| self.pixels[*n] != shown.pixels[*n]);
+        differ.map_or(Ok(()), |n| Err(format!("pixel {}: {} is {}", n / 3, self.pixels[n], shown.pixels[n])))
+    }
+
     pub fn bytes(&self) -> Vec<u8> {
         let mut file = format!("P6\n{} {}\n255\n", self.width, self.height).into_bytes();
         file.extend(&self.pixels);

@@ -7,6 +7,7 @@ use crate::random::Random;
 use crate::tree::LONGEST_FILE;
 
 pub use crate::inputs::{body_input, header_input, oversize_writer_input, query, row_input, writer_input};
+pub use crate::inputs::{default_palette, triples_mode, triples_room};
 pub use crate::inputs::{BodyInput, Query, RowInput, WriterInput};
 
 /// One file; about a third are meant to be sound.

@@ -19,7 +19,7 @@ pub(crate) struct Plan {
 impl Plan {
     /// A plan that is mostly sound.
     pub fn of(random: &mut Random) -> Plan {
-        let planes = random.between(1, 8) as u8;
+        let planes = random.pick(&[1, 2, 3, 4, 5, 6, 6, 6, 7, 8, 8]);
         let mut plan = Plan {
             width: width(random),
             height: random.between(1, 4) as u16,
@@ -105,6 +105,7 @@ pub(crate) fn picture(random: &mut Random, plan: &Plan, own_header: bool) -> Nod
         add_header(random, plan, &mut members);
     }
     add_others(random, &mut members);
+    add_colours(random, &mut members);
     shuffle(random, &mut members);
     let bodies = random.pick(&[0, 1, 1, 1, 1, 1, 1, 1, 1, 1, 1, 1, 1, 1, 2]);
     for _ in 0..bodies {
@@ -141,6 +142,34 @@ fn add_others(random: &mut Random, members: &mut Vec<Node>) {
     }
 }
 
+/// What the colours of a picture are made by: often a CAMG, often a CMAP.
+fn add_colours(random: &mut Random, members: &mut Vec<Node>) {
+    if random.one_in(2) {
+        let data = view_modes(random).to_be_bytes().to_vec();
+        members.push(Node::local(random, *b"CAMG", data));
+    }
+    if random.one_in(2) {
+        let data = palette(random);
+        members.push(Node::local(random, *b"CMAP", data));
+    }
+}
+
+/// Hold-and-modify, half-bright, both or neither, and other bits.
+pub(crate) fn view_modes(random: &mut Random) -> u32 {
+    const COLOURS: u32 = 0x880;
+    let any = random.word() as u32;
+    let others = random.pick(&[0, 4, 0x8004, 0x1440, any]);
+    random.pick(&[0x800, 0x800, 0x80, COLOURS, 0]) | others & !COLOURS
+}
+
+/// Few colours, as many as some plane count has, or one more or less.
+pub(crate) fn palette(random: &mut Random) -> Vec<u8> {
+    let few = random.below(5);
+    let near = random.pick(&[15, 16, 17, 31, 32, 33, 63, 64, 65, 128, 255, 256, 257]);
+    let entries = random.pick(&[few, near]);
+    random.bytes(3 * entries)
+}
+
 /// What stands after a BODY: at times a property that doesn't count.
 fn add_after(random: &mut Random, members: &mut Vec<Node>) {
     if random.one_in(3) {
@@ -151,17 +180,17 @@ fn add_after(random: &mut Random, members: &mut Vec<Node>) {
 
 /// One of CMAP, GRAB, DEST, SPRT and CAMG, seldom with a wrong size.
 fn property(random: &mut Random) -> Node {
-    let colours = random.between(0, 4) * 3;
-    let (name, size) = random.pick(&[
-        (*b"CMAP", colours),
-        (*b"CMAP", colours),
-        (*b"GRAB", 4),
-        (*b"DEST", 8),
-        (*b"SPRT", 2),
-        (*b"CAMG", 4),
-    ]);
-    let wrong = if random.one_in(25) { random.pick(&[1, 2]) } else { 0 };
-    let data = random.bytes(size + wrong);
+    let (name, mut data) = match random.below(6) {
+        0 | 1 => (*b"CMAP", palette(random)),
+        2 => (*b"GRAB", random.bytes(4)),
+        3 => (*b"DEST", random.bytes(8)),
+        4 => (*b"SPRT", random.bytes(2)),
+        _ => (*b"CAMG", view_modes(random).to_be_bytes().to_vec()),
+    };
+    if random.one_in(25) {
+        let wrong = random.between(1, 2);
+        data.extend(random.bytes(wrong));
+    }
     Node::local(random, name, data)
 }
 

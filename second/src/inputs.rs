@@ -2,22 +2,25 @@
 
 use crate::answer::Refused;
 use crate::fields::Layout;
-use crate::generate_picture::{body, plane_row, transparent, Plan};
-use crate::listing::count_pictures;
+use crate::generate_picture::{body, palette, plane_row, transparent, view_modes, Plan};
 use crate::pack::{packed, LONGEST_ROW};
-use crate::picture::properties;
+use crate::picture::all_pictures;
 use crate::random::Random;
-use crate::rows::{body_line, scan_line, ScanLine};
+use crate::rows::{body_line, ScanLine};
 use crate::shape::Lent;
+use crate::tree::Tree;
 use crate::write::{write_picture, Fields};
 
-/// What is asked of a picture, with the lengths of a row and of a frame; a shape is asked for or not.
+/// What is asked of a picture, with the lengths of a row and of a frame; a shape is asked for or not, or
+/// colours.
 #[derive(Clone, Copy, Debug)]
 pub struct Query {
     pub picture: usize,
     pub start: usize,
     pub row: Lent,
     pub frame: Lent,
+    pub colour_row: usize,
+    pub colour_frame: usize,
 }
 
 /// Bytes as a BODY, the fields that they are read by, and what is asked of them.
@@ -27,9 +30,13 @@ pub struct BodyInput {
     pub layout: Layout,
     pub transparent: u16,
     pub height: u16,
+    pub view_modes: u32,
+    pub palette: Vec<u8>,
     pub start: usize,
     pub row: Lent,
     pub frame: Lent,
+    pub colour_row: usize,
+    pub colour_frame: usize,
 }
 
 /// A row for the packer with the length of the buffer.
@@ -51,21 +58,25 @@ pub struct WriterInput {
 
 /// A query that fits the file mostly, but not always.
 pub fn query(random: &mut Random, file: &[u8]) -> Query {
-    let pictures = count_pictures(file).unwrap_or(0);
+    let tree = Tree::read(file).ok();
+    let pictures = tree.as_ref().map_or(Vec::new(), |tree| all_pictures(&tree.outermost));
     let beyond = usize::from(random.one_in(20));
-    let picture = random.below(pictures.max(1)) + beyond * pictures;
-    let Ok(told) = properties(file, picture) else {
+    let picture = random.below(pictures.len().max(1)) + beyond * pictures.len();
+    let told = pictures.get(picture).and_then(|found| found.properties(file).ok());
+    let Some(told) = told else {
         let one = Lent { colours: 1, shape: 1 };
-        return Query { picture, start: 0, row: one, frame: one };
+        return Query { picture, start: 0, row: one, frame: one, colour_row: 3, colour_frame: 3 };
     };
     let width = usize::from(told.header.width);
     let frame = width * usize::from(told.header.height);
-    let body = told.body.map_or(0, |range| range.len());
+    let (layout, body) = (told.header.layout(), told.body.map_or(&[][..], |range| &file[range]));
     Query {
         picture,
-        start: start_place(random, body, |start| scan_line(file, picture, start, width)),
+        start: start_place(random, body.len(), |start| body_line(body, &layout, start, width)),
         row: lent(random, width),
         frame: lent(random, frame),
+        colour_row: in_colours(random, width),
+        colour_frame: in_colours(random, frame),
     }
 }
 
@@ -93,10 +104,15 @@ pub fn body_input(random: &mut Random) -> BodyInput {
         layout = Plan::of(random).layout();
     }
     let width = usize::from(layout.width);
+    let pixels = width * usize::from(plan.height);
     BodyInput {
         start: start_place(random, body.len(), |start| body_line(&body, &layout, start, width)),
         row: lent(random, width),
-        frame: lent(random, width * usize::from(plan.height)),
+        frame: lent(random, pixels),
+        colour_row: in_colours(random, width),
+        colour_frame: in_colours(random, pixels),
+        view_modes: view_modes(random),
+        palette: default_palette(random),
         height: plan.height,
         transparent: plan.transparent,
         layout,
@@ -118,6 +134,34 @@ pub fn header_input(random: &mut Random) -> Vec<u8> {
 /// So many bytes each, mostly; one length may be wrong without the other.
 fn lent(random: &mut Random, pixels: usize) -> Lent {
     Lent { colours: nearly(random, pixels), shape: nearly(random, pixels) }
+}
+
+/// Three bytes for each of so many pixels, mostly; at times one.
+fn in_colours(random: &mut Random, pixels: usize) -> usize {
+    if random.one_in(30) {
+        return pixels;
+    }
+    nearly(random, 3 * pixels)
+}
+
+/// A palette of the caller's own: its last entry may be cut.
+pub fn default_palette(random: &mut Random) -> Vec<u8> {
+    let mut palette = palette(random);
+    let over = random.below(3);
+    palette.extend(random.bytes(over));
+    palette
+}
+
+/// Planes and view modes to make triples by; the planes may be any number, often 6.
+pub fn triples_mode(random: &mut Random) -> (u8, u32) {
+    let (few, any) = (random.below(10) as u8, random.byte());
+    (random.pick(&[6, 6, few, any]), view_modes(random))
+}
+
+/// Bytes lent for 64 triples: as many as they have, mostly, or more or less.
+pub fn triples_room(random: &mut Random) -> usize {
+    let (less, more) = (random.below(192), random.between(193, 800));
+    random.pick(&[192, 192, 191, 193, less, more])
 }
 
 fn nearly(random: &mut Random, number: usize) -> usize {

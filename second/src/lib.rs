@@ -10,6 +10,7 @@
 
 pub mod additions;
 mod answer;
+mod colour;
 mod copy;
 mod damage;
 mod fields;
@@ -29,6 +30,8 @@ mod tree;
 mod write;
 
 pub use answer::{Accepted, Refused};
+pub use colour::{body_colour_frame, body_colour_line, colour_frame, colour_line, palette_triples, triples};
+pub use colour::{Colouring, Rgb};
 pub use copy::clean_copy;
 pub use fields::{header_fields, Destination, Grab, Header, Layout};
 pub use listing::{count_pictures, data, fill_table, listing_text, record, records, Record};

@@ -2,10 +2,8 @@
 //! that is told of it, `second files SEED COUNT FOLDER` writes generated files.
 
 use second::random::Random;
-use second::{
-    check, clean_copy, count_pictures, frame, generate, listing_text, palette, properties, scan_line,
-    shape_frame, Lent,
-};
+use second::{check, clean_copy, colour_frame, count_pictures, frame, generate, listing_text, palette};
+use second::{properties, scan_line, shape_frame, triples, Lent};
 use std::io::{Read, Write};
 
 fn main() -> std::io::Result<()> {
@@ -65,7 +63,11 @@ fn picture_answers(file: &[u8], picture: usize) -> String {
     let whole = frame(file, picture, width * height);
     text += &format!("frame {:?}\n", whole.map(|whole| (sum(&whole.colours), whole.leftover)));
     let shaped = shape_frame(file, picture, Lent { colours: width * height, shape: width * height });
-    text + &format!("shape {:?}\n", shaped.map(|shaped| sum(&shaped.shape)))
+    text += &format!("shape {:?}\n", shaped.map(|shaped| sum(&shaped.shape)));
+    let coloured = colour_frame(file, picture, b"default", 3 * width * height);
+    text += &format!("colours {:?}\n", coloured.map(|coloured| sum(&coloured.colours)));
+    let entries = triples(file, picture, b"default", 192);
+    text + &format!("triples {:?}\n", entries.map(|entries| sum(entries.as_flattened())))
 }
 
 /// A 64-bit checksum (FNV-1a).

@@ -11,14 +11,14 @@ pub(crate) struct Decoded {
     pub next: usize,
 }
 
-/// The colour numbers of one scan line and the place in the BODY after it.
+/// The colours of one scan line, as numbers or as red, green, blue, and the place in the BODY after it.
 #[derive(Clone, Debug, PartialEq, Eq)]
 pub struct ScanLine {
     pub colours: Vec<u8>,
     pub next: usize,
 }
 
-/// The colour numbers of a frame and the count of BODY bytes left over.
+/// The colours of a frame, as numbers or as red, green, blue, and the count of BODY bytes left over.
 #[derive(Clone, Debug, PartialEq, Eq)]
 pub struct Frame {
     pub colours: Vec<u8>,
@@ -65,7 +65,17 @@ pub fn body_frame(body: &[u8], layout: &Layout, height: u16, frame_length: usize
 
 /// A line can be asked for: 41, 42, 43, 24, 29.
 pub(crate) fn startable(body: &[u8], layout: &Layout, start: usize) -> Result<(), Refused> {
-    sound(layout, layout.width == 0 || layout.planes == 0)?;
+    line_sound(layout)?;
+    inside(body, start)
+}
+
+/// The fields are those of a line: 41, 42, 43, 24.
+pub(crate) fn line_sound(layout: &Layout) -> Result<(), Refused> {
+    sound(layout, layout.width == 0 || layout.planes == 0)
+}
+
+/// The place is none beyond the BODY: 29.
+pub(crate) fn inside(body: &[u8], start: usize) -> Result<(), Refused> {
     if start > body.len() {
         return Err(Refused::plain(29));
     }

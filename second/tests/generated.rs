@@ -2,10 +2,11 @@
 
 use second::generate::{self, Query};
 use second::random::Random;
-use second::{body_frame, body_line, body_shape_frame, body_shape_line, count_pictures, header_fields};
+use second::{body_colour_frame, body_colour_line, body_frame, body_line, body_shape_frame, body_shape_line};
 use second::{check, clean_copy, data, fill_table, frame, listing_text, pack, palette, properties};
+use second::{colour_frame, colour_line, count_pictures, header_fields, palette_triples, triples};
 use second::{picture_rows, record, records, scan_line, shape_frame, shape_line, write_picture};
-use second::{Frame, Kind, Lent, Origin, Refused};
+use second::{Colouring, Frame, Kind, Lent, Origin, Refused};
 use std::collections::BTreeMap;
 
 /// A number from the environment, or the usual one.
@@ -118,7 +119,7 @@ fn clean_copies_are_accepted() {
 fn picture_numbers() {
     let (mut tally, mut shapes) = (Tally::default(), Tally::default());
     for_files(|file, random| {
-        let Query { picture, start, row, frame: lent } = generate::query(random, file);
+        let Query { picture, start, row, frame: lent, .. } = generate::query(random, file);
         let told = properties(file, picture);
         assert_eq!(palette(file, picture, b"rgb").err(), told.as_ref().err().copied());
         tally.add(&told);
@@ -136,6 +137,22 @@ fn picture_numbers() {
     });
     tally.needs([0].into_iter().chain(20..=29).chain(41..=43));
     shapes.needs([0].into_iter().chain(20..=29).chain(41..=44));
+}
+
+#[test]
+fn colour_numbers() {
+    let (mut lines, mut frames, mut palettes) = (Tally::default(), Tally::default(), Tally::default());
+    for_files(|file, random| {
+        let asked = generate::query(random, file);
+        let default = generate::default_palette(random);
+        lines.add(&colour_line(file, asked.picture, asked.start, &default, asked.colour_row));
+        frames.add(&colour_frame(file, asked.picture, &default, asked.colour_frame));
+        let room = generate::triples_room(random);
+        palettes.add(&triples(file, asked.picture, &default, room));
+    });
+    lines.needs([0].into_iter().chain(20..=29).chain([41, 42, 43, 46]));
+    frames.needs([0].into_iter().chain(20..=28).chain([41, 42, 43, 46]));
+    palettes.needs([0].into_iter().chain(20..=24).chain([32, 41, 42, 43]));
 }
 
 /// The table has an answer for each picture, and with the BODY what the calls by number give.
@@ -169,7 +186,7 @@ fn body_numbers() {
     let (mut shape_lines, mut shape_frames) = (Tally::default(), Tally::default());
     for _ in 0..files() {
         let input = generate::body_input(&mut random);
-        let generate::BodyInput { body, layout, transparent, height, start, row, frame } = &input;
+        let generate::BodyInput { body, layout, transparent, height, start, row, frame, .. } = &input;
         lines.add(&body_line(body, layout, *start, row.colours));
         frames.add(&body_frame(body, layout, *height, frame.colours));
         shape_lines.add(&body_shape_line(body, layout, *transparent, *start, *row));
@@ -181,6 +198,61 @@ fn body_numbers() {
     shape_lines.needs([0, 24, 26, 27, 28, 29, 41, 42, 43, 44]);
     shape_frames.needs([0, 24, 26, 27, 28, 41, 42, 43, 44]);
     headers.needs([0, 23]);
+}
+
+#[test]
+fn body_colour_numbers() {
+    let mut random = Random::new(seed());
+    let (mut lines, mut frames, mut palettes) = (Tally::default(), Tally::default(), Tally::default());
+    for _ in 0..files() {
+        let input = generate::body_input(&mut random);
+        let generate::BodyInput { body, layout, height, start, view_modes, palette, .. } = &input;
+        let by = Colouring { view_modes: *view_modes, palette };
+        lines.add(&body_colour_line(body, layout, &by, *start, input.colour_row));
+        frames.add(&body_colour_frame(body, layout, &by, *height, input.colour_frame));
+        let (planes, room) = (generate::triples_mode(&mut random).0, generate::triples_room(&mut random));
+        palettes.add(&palette_triples(&by, planes, room));
+    }
+    lines.needs([0, 24, 26, 27, 28, 29, 41, 42, 43, 46]);
+    frames.needs([0, 24, 26, 27, 28, 41, 42, 43, 46]);
+    palettes.needs([0, 32]);
+}
+
+/// How colours are made, by the planes and the bits 11 and 7 of CAMG.
+type Mode = (u8, bool, bool);
+
+/// A frame in colours is its scan lines in turn, and every mode is met with numbers of every kind.
+#[test]
+fn colours_are_varied() {
+    let mut met = BTreeMap::<Mode, [usize; 4]>::new();
+    for_files(|file, random| {
+        let picture = generate::query(random, file).picture;
+        let default = generate::default_palette(random);
+        let Ok(told) = properties(file, picture) else { return };
+        let (width, height) = (usize::from(told.header.width), usize::from(told.header.height));
+        let Ok(whole) = colour_frame(file, picture, &default, 3 * width * height) else { return };
+        let numbers = frame(file, picture, width * height).unwrap().colours;
+        let mut place = 0;
+        for pixels in whole.colours.chunks(3 * width) {
+            let line = colour_line(file, picture, place, &default, 3 * width).unwrap();
+            assert_eq!(line.colours, pixels);
+            place = line.next;
+        }
+        let modes = told.view_modes.value.unwrap_or(0);
+        let planes = told.header.planes;
+        let kinds = met.entry((planes, modes & 0x800 != 0, modes & 0x80 != 0)).or_default();
+        for (kind, count) in kinds.iter_mut().enumerate() {
+            let high = |number: &u8| usize::from(number >> planes.saturating_sub(2)) == kind;
+            *count += usize::from(numbers.iter().any(high));
+        }
+    });
+    println!("seed {}: planes, bit 11, bit 7, with the high bits 0 to 3: {met:?}", seed());
+    let held = [6, 8].into_iter().flat_map(|planes| [false, true].map(|half| (planes, true, half)));
+    let others = (2..=8).flat_map(|planes| [false, true].map(|half| (planes, false, half)));
+    for mode in held.chain(others) {
+        let least = met.get(&mode).map_or(0, |kinds| *kinds.iter().min().unwrap());
+        assert!(least > files() / 1000, "{mode:?} {least} times");
+    }
 }
 
 /// A frame's shape is that of its scan lines in turn, and every case of it is met.

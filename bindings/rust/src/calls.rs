@@ -194,6 +194,42 @@ mod exported {
             leftover: &mut usize,
         ) -> usize;
 
+        pub fn ilbm_colour_line(
+            file: *const u8,
+            file_length: usize,
+            picture: usize,
+            start: usize,
+            default_palette: *const u8,
+            default_length: usize,
+            row: *mut u8,
+            row_length: usize,
+            place: &mut usize,
+            next: &mut usize,
+        ) -> usize;
+
+        pub fn ilbm_colour_frame(
+            file: *const u8,
+            file_length: usize,
+            picture: usize,
+            default_palette: *const u8,
+            default_length: usize,
+            frame: *mut u8,
+            frame_length: usize,
+            place: &mut usize,
+            leftover: &mut usize,
+        ) -> usize;
+
+        pub fn ilbm_triples(
+            file: *const u8,
+            file_length: usize,
+            picture: usize,
+            default_palette: *const u8,
+            default_length: usize,
+            triples: *mut u8,
+            triples_length: usize,
+            place: &mut usize,
+        ) -> usize;
+
         pub fn ilbm_pictures(
             file: *const u8,
             file_length: usize,
@@ -281,6 +317,49 @@ mod exported {
             shape_length: usize,
             place: &mut usize,
             leftover: &mut usize,
+        ) -> usize;
+
+        pub fn ilbm_body_colour_line(
+            body: *const u8,
+            body_length: usize,
+            w: u16,
+            planes: u8,
+            masking: u8,
+            compression: u8,
+            view_mode: u32,
+            palette: *const u8,
+            palette_length: usize,
+            start: usize,
+            row: *mut u8,
+            row_length: usize,
+            place: &mut usize,
+            next: &mut usize,
+        ) -> usize;
+
+        pub fn ilbm_body_colour_frame(
+            body: *const u8,
+            body_length: usize,
+            w: u16,
+            h: u16,
+            planes: u8,
+            masking: u8,
+            compression: u8,
+            view_mode: u32,
+            palette: *const u8,
+            palette_length: usize,
+            frame: *mut u8,
+            frame_length: usize,
+            place: &mut usize,
+            leftover: &mut usize,
+        ) -> usize;
+
+        pub fn ilbm_palette_triples(
+            palette: *const u8,
+            palette_length: usize,
+            planes: u8,
+            view_mode: u32,
+            triples: *mut u8,
+            triples_length: usize,
         ) -> usize;
 
         pub fn byterun_pack(
@@ -633,6 +712,82 @@ pub fn ilbm_shape_frame(
     }
 }
 
+/// Writes a scan line from a place of the BODY in colours, three bytes a pixel, by
+/// the palette of the picture or the default: 0, or a number of a picture or of its
+/// rows in colours.
+pub fn ilbm_colour_line(
+    file: &[u8],
+    picture: usize,
+    start: usize,
+    default_palette: &[u8],
+    row: &mut [u8],
+    place: &mut usize,
+    next: &mut usize,
+) -> usize {
+    unsafe {
+        exported::ilbm_colour_line(
+            file.as_ptr(),
+            file.len(),
+            picture,
+            start,
+            default_palette.as_ptr(),
+            default_palette.len(),
+            row.as_mut_ptr(),
+            row.len(),
+            place,
+            next,
+        )
+    }
+}
+
+/// Writes all scan lines in colours: 0, or a number of a picture or of its rows in
+/// colours.
+pub fn ilbm_colour_frame(
+    file: &[u8],
+    picture: usize,
+    default_palette: &[u8],
+    frame: &mut [u8],
+    place: &mut usize,
+    leftover: &mut usize,
+) -> usize {
+    unsafe {
+        exported::ilbm_colour_frame(
+            file.as_ptr(),
+            file.len(),
+            picture,
+            default_palette.as_ptr(),
+            default_palette.len(),
+            frame.as_mut_ptr(),
+            frame.len(),
+            place,
+            leftover,
+        )
+    }
+}
+
+/// Writes the palette of a picture or the default as 64 triples, 192 bytes: 0, or a
+/// number of a picture, or 32 for less room. Bytes behind them stay as they are.
+pub fn ilbm_triples(
+    file: &[u8],
+    picture: usize,
+    default_palette: &[u8],
+    triples: &mut [u8],
+    place: &mut usize,
+) -> usize {
+    unsafe {
+        exported::ilbm_triples(
+            file.as_ptr(),
+            file.len(),
+            picture,
+            default_palette.as_ptr(),
+            default_palette.len(),
+            triples.as_mut_ptr(),
+            triples.len(),
+            place,
+        )
+    }
+}
+
 /// Tells all pictures, 30 numbers each: 0, or 1 to 12 with the place, or 13 if
 /// the table has fewer places than there are pictures. Of each: its answer, its
 /// FORM's place and type; for BMHD, CMAP, GRAB, DEST, SPRT and CAMG the origin
@@ -814,6 +969,93 @@ pub fn ilbm_body_shape_frame(
             shape.len(),
             place,
             leftover,
+        )
+    }
+}
+
+/// Writes a scan line from a place of any bytes as a BODY in colours: 0, or 41, 42,
+/// 43, 24, 46, 29, 28, 27 or 26, tried in this order.
+#[allow(clippy::too_many_arguments)]
+pub fn ilbm_body_colour_line(
+    body: &[u8],
+    w: u16,
+    planes: u8,
+    masking: u8,
+    compression: u8,
+    view_mode: u32,
+    palette: &[u8],
+    start: usize,
+    row: &mut [u8],
+    place: &mut usize,
+    next: &mut usize,
+) -> usize {
+    unsafe {
+        exported::ilbm_body_colour_line(
+            body.as_ptr(),
+            body.len(),
+            w,
+            planes,
+            masking,
+            compression,
+            view_mode,
+            palette.as_ptr(),
+            palette.len(),
+            start,
+            row.as_mut_ptr(),
+            row.len(),
+            place,
+            next,
+        )
+    }
+}
+
+/// Writes all scan lines of any bytes as a BODY in colours: 0, or 41, 42, 43, 24,
+/// 46, 28, 27 or 26, tried in this order.
+#[allow(clippy::too_many_arguments)]
+pub fn ilbm_body_colour_frame(
+    body: &[u8],
+    w: u16,
+    h: u16,
+    planes: u8,
+    masking: u8,
+    compression: u8,
+    view_mode: u32,
+    palette: &[u8],
+    frame: &mut [u8],
+    place: &mut usize,
+    leftover: &mut usize,
+) -> usize {
+    unsafe {
+        exported::ilbm_body_colour_frame(
+            body.as_ptr(),
+            body.len(),
+            w,
+            h,
+            planes,
+            masking,
+            compression,
+            view_mode,
+            palette.as_ptr(),
+            palette.len(),
+            frame.as_mut_ptr(),
+            frame.len(),
+            place,
+            leftover,
+        )
+    }
+}
+
+/// Writes any palette as 64 triples, 192 bytes, by the planes and the view modes: 0,
+/// or 32 for less room.
+pub fn ilbm_palette_triples(palette: &[u8], planes: u8, view_mode: u32, triples: &mut [u8]) -> usize {
+    unsafe {
+        exported::ilbm_palette_triples(
+            palette.as_ptr(),
+            palette.len(),
+            planes,
+            view_mode,
+            triples.as_mut_ptr(),
+            triples.len(),
         )
     }
 }

@@ -31,6 +31,31 @@
 //! a mask plane or a transparent colour, and [`write_with_shape`] writes a mask
 //! plane.
 //!
+//! # Colours
+//!
+//! [`Picture::colour_frame`] gives red, green, blue for each pixel, by the palette and
+//! the view modes of CAMG:
+//!
+//! - bit 11 with 6 or 8 planes is hold-and-modify: the two high bits of a colour
+//!   number choose 0 the palette's entry of the other bits v, 1 a new blue, 2 a new
+//!   red, 3 a new green, and the other parts are those of the pixel to the left, of
+//!   (0, 0, 0) for a line's first. A part is 17 v with 6 planes, 4 v + v / 16 with 8;
+//! - bit 7 with 6 planes and no bit 11 is half-bright: number 32 + i has entry i with
+//!   each part halved, rounded down;
+//! - in any other picture a number has its entry of the palette.
+//!
+//! An entry that the palette hasn't whole is (0, 0, 0). [`Picture::triples`] gives the
+//! palette of a half-bright picture with its halves, of any other its first 64 entries.
+//!
+//! ```
+//! let file = florinhado::File::new(include_bytes!("../../../samples/colours.iff"))?;
+//! for picture in file.pictures().take(4) {
+//!     let pixels = picture.colour_frame(b"")?;
+//!     println!("{:?}", pixels.chunks(3).collect::<Vec<_>>());
+//! }
+//! # Ok::<(), florinhado::Refused>(())
+//! ```
+//!
 //! # Refusals of a picture
 //!
 //! Every call on a picture is refused by the file's structure, 1 to 12 with the
@@ -38,8 +63,9 @@
 //! several BODYs, 23 for a property of a wrong size; then for the header: 41
 //! nPlanes over 8, 42 masking over 3, 43 compression over 1, 24 w, h or nPlanes 0
 //! with a BODY. They are tried in this order. The calls on its rows have more: 25
-//! for no BODY, 29 for a start place beyond its end, 28 for a row, frame or shape
-//! of a wrong length, 44 where a shape is asked for and masking is 3, 27 and 26
+//! for no BODY, 46 where colours are asked for and CAMG has bit 11 with other than 6
+//! or 8 planes, 29 for a start place beyond the BODY's end, 28 for a row, frame or
+//! shape of a wrong length, 44 where a shape is asked for and masking is 3, 27 and 26
 //! with the place in the BODY. [`Refused::meaning`] tells each in words:
 //!
 //! ```
@@ -62,6 +88,7 @@ struct Readme;
 mod answer;
 pub mod calls;
 mod check;
+mod colours;
 mod copy;
 mod data;
 mod file;
@@ -78,10 +105,11 @@ mod write;
 
 pub use answer::Refused;
 pub use check::{check, Accepted};
+pub use colours::{body_colour_frame, body_colour_line, colour_frame, colour_line, palette_triples, triples};
 pub use copy::clean_copy;
 pub use data::data;
 pub use file::File;
-pub use lines::{Lines, ShapedLines};
+pub use lines::{ColourLines, Lines, ShapedLines};
 pub use pack::pack;
 pub use palette::palette;
 pub use picture::Picture;

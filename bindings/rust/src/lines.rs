@@ -1,6 +1,7 @@
 //! The scan lines of a picture in turn.
 
 use crate::answer::Refused;
+use crate::colours::body_colour_line;
 use crate::properties::Header;
 use crate::rows::body_line;
 use crate::shapes::{body_shape_line, Shaped};
@@ -97,6 +98,42 @@ impl Iterator for ShapedLines<'_> {
             let mut line = Shaped::room(header.width.into());
             let next = body_shape_line(body, header, start, &mut line.colours, &mut line.shape)?;
             Ok((line, next))
+        })
+    }
+}
+
+/// The scan lines of a [`Picture`](crate::Picture) from the first on, each in
+/// colours, three bytes for each pixel. After a refusal, of the picture or of a
+/// line, there are no more.
+///
+/// ```
+/// let file = florinhado::File::new(include_bytes!("../../../samples/colours.iff"))?;
+/// let lines: florinhado::ColourLines = file.picture(2).unwrap().colour_lines(b"");
+/// let lines: Result<Vec<_>, _> = lines.collect();
+/// assert_eq!(lines?[1][..6], [17, 34, 51, 8, 17, 25]);
+/// # Ok::<(), florinhado::Refused>(())
+/// ```
+#[derive(Clone, Debug)]
+pub struct ColourLines<'a> {
+    place: Place<'a>,
+    view_mode: u32,
+    palette: &'a [u8],
+}
+
+impl<'a> ColourLines<'a> {
+    pub(crate) fn of(read: Read<'a>, view_mode: u32, palette: &'a [u8]) -> ColourLines<'a> {
+        ColourLines { place: Place::of(read), view_mode, palette }
+    }
+}
+
+impl Iterator for ColourLines<'_> {
+    type Item = Result<Vec<u8>, Refused>;
+
+    fn next(&mut self) -> Option<Self::Item> {
+        self.place.next(|body, header, start| {
+            let mut row = vec![0; 3 * usize::from(header.width)];
+            let next = body_colour_line(body, header, self.view_mode, self.palette, start, &mut row)?;
+            Ok((row, next))
         })
     }
 }

@@ -1,7 +1,8 @@
 //! A picture by its row of the table.
 
 use crate::answer::{answer, Refused};
-use crate::lines::{Lines, Read, ShapedLines};
+use crate::colours::{body_colour_frame, body_colour_line, palette_triples};
+use crate::lines::{ColourLines, Lines, Read, ShapedLines};
 use crate::properties::{bmhd, Destination, Header, HotSpot, Origin, Property};
 use crate::rows::{body_frame, body_line};
 use crate::shapes::{body_shape_frame, body_shape_line, Shaped};
@@ -317,6 +318,95 @@ impl<'a> Picture<'a> {
     ) -> Result<usize, Refused> {
         let (header, body) = self.read()?;
         body_shape_line(body, &header, start, row, shape)
+    }
+
+    /// All scan lines in [colours](crate#colours), line by line, three bytes for each
+    /// pixel: red, green, blue. `default` is the palette where no CMAP counts; 46 for
+    /// hold-and-modify with other than 6 or 8 planes.
+    ///
+    /// ```
+    /// let file = florinhado::File::new(include_bytes!("../../../samples/colours.iff"))?;
+    /// let held = file.picture(0).unwrap().colour_frame(b"")?;
+    /// assert_eq!(held[..12], [170, 0, 0, 255, 128, 0, 255, 128, 255, 255, 17, 255]);
+    /// let refused = file.picture(4).unwrap().colour_frame(b"").unwrap_err();
+    /// assert_eq!(refused.to_string(), "refusal 46 at 0: CAMG bit 11, hold-and-modify, with other than 6 or 8 planes");
+    /// # Ok::<(), florinhado::Refused>(())
+    /// ```
+    pub fn colour_frame(&self, default: &[u8]) -> Result<Vec<u8>, Refused> {
+        let (header, body) = self.read()?;
+        let Some(pixels) = pixels(&header, body) else {
+            return Ok(self.colour_lines(default).collect::<Result<Vec<_>, _>>()?.concat());
+        };
+        let mut frame = vec![0; 3 * pixels];
+        self.colour_frame_into(default, &mut frame)?;
+        Ok(frame)
+    }
+
+    /// Writes all scan lines in colours to `frame`, which has three bytes for each
+    /// pixel, and gives how many bytes of the BODY are left over. A refusal changes
+    /// nothing.
+    ///
+    /// ```
+    /// let file = florinhado::File::new(include_bytes!("../../../samples/colours.iff"))?;
+    /// let mut frame = [9; 24];
+    /// assert_eq!(file.picture(1).unwrap().colour_frame_into(b"", &mut frame)?, 0);
+    /// assert_eq!(frame[3..9], [255, 0, 60, 255, 65, 60]);
+    /// assert_eq!(file.picture(1).unwrap().colour_frame_into(b"", &mut [0; 8]).unwrap_err().number, 28);
+    /// # Ok::<(), florinhado::Refused>(())
+    /// ```
+    pub fn colour_frame_into(&self, default: &[u8], frame: &mut [u8]) -> Result<usize, Refused> {
+        let (header, body) = self.read()?;
+        body_colour_frame(body, &header, self.view_mode()?.value, self.palette(default)?.value, frame)
+    }
+
+    /// The scan lines in colours in turn; see [`ColourLines`].
+    ///
+    /// ```
+    /// let file = florinhado::File::new(include_bytes!("../../../samples/colours.iff"))?;
+    /// for line in file.picture(0).unwrap().colour_lines(b"") {
+    ///     println!("{:?}", line?);
+    /// }
+    /// # Ok::<(), florinhado::Refused>(())
+    /// ```
+    pub fn colour_lines<'b>(&self, default: &'b [u8]) -> ColourLines<'b>
+    where
+        'a: 'b,
+    {
+        // Of a picture that is refused neither is looked at.
+        let view_mode = self.view_mode().map_or(0, |told| told.value);
+        let palette = self.palette(default).map_or(default, |told| told.value);
+        ColourLines::of(self.read(), view_mode, palette)
+    }
+
+    /// Writes the scan line at this place of the BODY in colours to `row`, which has
+    /// three bytes for each pixel, and gives the place at which the next line starts.
+    /// A refusal changes nothing.
+    ///
+    /// ```
+    /// let file = florinhado::File::new(include_bytes!("../../../samples/colours.iff"))?;
+    /// let mut row = [9; 12];
+    /// let next = file.picture(3).unwrap().colour_line_into(12, b"", &mut row)?;
+    /// assert_eq!((next, &row[..6]), (24, &[17, 34, 51, 0, 0, 0][..]));
+    /// # Ok::<(), florinhado::Refused>(())
+    /// ```
+    pub fn colour_line_into(&self, start: usize, default: &[u8], row: &mut [u8]) -> Result<usize, Refused> {
+        let (header, body) = self.read()?;
+        body_colour_line(body, &header, self.view_mode()?.value, self.palette(default)?.value, start, row)
+    }
+
+    /// The palette, or the default where no CMAP counts, as 64 triples: of a
+    /// half-bright picture entries 0 to 31 and their halves, of any other the first
+    /// 64. An entry that isn't there whole is (0, 0, 0).
+    ///
+    /// ```
+    /// let file = florinhado::File::new(include_bytes!("../../../samples/colours.iff"))?;
+    /// let bright = file.picture(2).unwrap().triples(b"")?;
+    /// assert_eq!((bright[2], bright[34]), ([0, 64, 255], [0, 32, 127]));
+    /// # Ok::<(), florinhado::Refused>(())
+    /// ```
+    pub fn triples(&self, default: &[u8]) -> Result<[[u8; 3]; 64], Refused> {
+        let palette = self.palette(default)?.value;
+        Ok(palette_triples(palette, self.header()?.value.planes, self.view_mode()?.value))
     }
 
     /// The header and the BODY, or what the picture is refused with.

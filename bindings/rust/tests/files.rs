@@ -1,9 +1,10 @@
 //! A file opened once gives what the functions by number give.
 
-use florinhado::{destination, frame, grab, header, palette, records, shape_frame, sprite, view_mode, write};
-use florinhado::{File, Header, Refused, Shaped};
+use florinhado::{colour_frame, destination, frame, grab, header, palette, records, shape_frame, sprite};
+use florinhado::{triples, view_mode, write, File, Header, Refused, Shaped};
 
-const SAMPLES: [&[u8]; 5] = [
+const SAMPLES: [&[u8]; 6] = [
+    include_bytes!("../../../samples/colours.iff"),
     include_bytes!("../../../samples/form.iff"),
     include_bytes!("../../../samples/headers.iff"),
     include_bytes!("../../../samples/nested.iff"),
@@ -33,6 +34,12 @@ fn samples_both_ways() {
             let (mut colours, mut shape) = (vec![0; size], vec![0; size]);
             let told = shape_frame(bytes, number, &mut colours, &mut shape);
             assert_eq!(picture.frame_with_shape(), told.map(|_| Shaped { colours, shape }));
+            let mut pixels = vec![0; 3 * size];
+            let told = colour_frame(bytes, number, b"abcdefg", &mut pixels).map(|_| pixels);
+            assert_eq!(picture.colour_frame(b"abcdefg"), told);
+            let lines = picture.colour_lines(b"abcdefg").collect::<Result<Vec<_>, _>>();
+            assert_eq!(lines.map(|lines| lines.concat()), told);
+            assert_eq!(picture.triples(b"abcdefg"), triples(bytes, number, b"abcdefg"));
         }
         assert!(file.picture(file.pictures().len()).is_none());
     }
@@ -70,6 +77,9 @@ fn no_body() {
     assert_eq!(picture.lines().collect::<Vec<_>>(), [Err(refused)]);
     assert_eq!(picture.frame_with_shape(), Err(refused));
     assert_eq!(picture.lines_with_shape().collect::<Vec<_>>(), [Err(refused)]);
+    assert_eq!(picture.colour_frame(b""), Err(refused));
+    assert_eq!(picture.colour_lines(b"").collect::<Vec<_>>(), [Err(refused)]);
+    assert_eq!(picture.triples(b"").map(|told| told[0]), Ok([0; 3]));
 }
 
 /// A header that promises far more than the BODY holds: the first line that isn't there is told.
@@ -88,6 +98,10 @@ fn far_too_short() {
     assert_eq!(picture.frame_with_shape(), Err(refused));
     let shapes: Vec<_> = picture.lines_with_shape().map(|line| line.map(|line| line.shape)).collect();
     assert_eq!(shapes, [Ok(vec![1, 1]), Ok(vec![1, 1]), Ok(vec![1, 1]), Err(refused)]);
+    assert_eq!(picture.colour_frame(b""), Err(refused));
+    let shown: Vec<_> = picture.colour_lines(&[0, 0, 0, 7, 8, 9]).collect();
+    let shade = |line: [u8; 2]| Ok(line.map(|number| [7, 8, 9].map(|part| part * number)).concat());
+    assert_eq!(shown, [shade([1, 0]), shade([0, 1]), shade([1, 1]), Err(refused)]);
     bytes[29] = 3;
     let lasso = File::new(&bytes).unwrap().picture(0).unwrap();
     assert_eq!(lasso.frame_with_shape(), Err(Refused { number: 44, place: 0 }));

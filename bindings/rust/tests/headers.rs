@@ -1,11 +1,12 @@
 //! Pictures whose headers can't be shown: every call tells which field is wrong.
 
-use florinhado::{destination, frame, grab, header, palette, scan_line, sprite, view_mode, Refused};
+use florinhado::{colour_frame, colour_line, shape_frame, shape_line, triples, Refused};
+use florinhado::{destination, frame, grab, header, palette, scan_line, sprite, view_mode};
 
 const FILE: &[u8] = include_bytes!("../../../samples/headers.iff");
 
 /// What each call on a picture is refused with.
-fn refusals(picture: usize) -> [Option<Refused>; 8] {
+fn refusals(picture: usize) -> [Option<Refused>; 13] {
     [
         header(FILE, picture).err(),
         grab(FILE, picture).err(),
@@ -15,6 +16,11 @@ fn refusals(picture: usize) -> [Option<Refused>; 8] {
         palette(FILE, picture, b"").err(),
         scan_line(FILE, picture, 0, &mut [9; 3]).err(),
         frame(FILE, picture, &mut [9; 6]).err(),
+        shape_line(FILE, picture, 0, &mut [9; 3], &mut [9; 3]).err(),
+        shape_frame(FILE, picture, &mut [9; 6], &mut [9; 6]).err(),
+        colour_line(FILE, picture, 0, b"", &mut [9; 9]).err(),
+        colour_frame(FILE, picture, b"", &mut [9; 18]).err(),
+        triples(FILE, picture, b"").err(),
     ]
 }
 
@@ -28,8 +34,8 @@ fn each_call_names_the_field() {
         (4, 41, "nPlanes 9 or more: at most 8 planes are known"),
     ] {
         let refused = Refused { number, place: 0 };
-        assert_eq!(refusals(picture), [Some(refused); 8]);
+        assert_eq!(refusals(picture), [Some(refused); 13]);
         assert_eq!(refused.meaning(), words);
     }
-    assert_eq!(refusals(5), [None; 8]);
+    assert_eq!(refusals(5), [None; 13]);
 }

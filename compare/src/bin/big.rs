@@ -2,7 +2,7 @@
 //! pictures read, and the largest written, on a thread with the stack that a
 //! call may take. `run_big.sh` runs it with a small stack for the rest.
 
-use compare::chunks::group;
+use compare::chunks::{group, with_modes};
 use compare::large::{accepted, filled_up, forms, leaves, nested, pictures_sharing, props, shared_from_afar};
 use compare::large::{GROUPS, LEAVES, LEVELS, SHARING};
 use compare::write::written;
@@ -118,6 +118,13 @@ fn widest_picture(masking: u8, compression: u8) -> Case {
     Case { name, file: filled_up(file), known }
 }
 
+/// The same by hold-and-modify: a CAMG behind the header.
+fn held_picture(compression: u8) -> Case {
+    let file = with_modes(&widest_picture(2, compression).file, 0x800);
+    let known = Ok(accepted(5, file.len()));
+    Case { name: "the same by hold-and-modify", file: filled_up(file), known }
+}
+
 fn run(case: &Case) -> Result<(), String> {
     let mut random = Random::new(case.file.len() as u64);
     let told = second::check(&case.file);
@@ -187,7 +194,7 @@ fn write_picture(input: WriterInput, known: usize) -> Result<(), String> {
 }
 
 fn run_all(count: usize) -> ExitCode {
-    let cases: [&dyn Fn() -> Case; 15] = [
+    let cases: [&dyn Fn() -> Case; 17] = [
         &full_form,
         &full_cat,
         &|| list_of_props(count),
@@ -203,6 +210,8 @@ fn run_all(count: usize) -> ExitCode {
         &|| widest_picture(2, 1),
         &|| widest_picture(1, 0),
         &|| widest_picture(1, 1),
+        &|| held_picture(0),
+        &|| held_picture(1),
     ];
     for case in cases {
         let case = case();

@@ -4,7 +4,7 @@
 use second::{Header, Refused};
 
 /// Byte j of entry b, from the lowest, is bit 7 - j of b.
-static SPREAD: [u64; 256] = spread();
+pub(super) static SPREAD: [u64; 256] = spread();
 
 const fn spread() -> [u64; 256] {
     let mut table = [0; 256];
@@ -42,22 +42,33 @@ pub fn frame_by_table(header: &Header, body: &[u8], frame: &mut [u8]) -> Result<
 fn lines<const PLANES: usize>(header: &Header, body: &[u8], frame: &mut [u8]) -> Result<usize, Refused> {
     let width = usize::from(header.width);
     let length = width.div_ceil(16) * 2;
-    let count = PLANES + usize::from(header.masking == 1);
+    each_line(header, body, frame.chunks_exact_mut(width), |rows, line| gather::<PLANES>(rows, length, line))
+}
+
+/// Shows the plane rows of each line in what is lent for it. Returns the count of BODY bytes left over.
+pub(super) fn each_line<'a>(
+    header: &Header,
+    body: &[u8],
+    lines: impl Iterator<Item = &'a mut [u8]>,
+    mut show: impl FnMut(&[u8], &'a mut [u8]),
+) -> Result<usize, Refused> {
+    let length = usize::from(header.width).div_ceil(16) * 2;
+    let count = usize::from(header.planes) + usize::from(header.masking == 1);
     let mut rows = vec![0; length * count + ROOM];
     let mut place = 0;
-    for line in frame.chunks_exact_mut(width) {
+    for line in lines {
         if header.compression == 1 {
             for row in 0..count {
                 place = unpack(body, place, &mut rows[row * length..], length)?;
             }
-            gather::<PLANES>(&rows, length, line);
+            show(&rows, line);
         } else {
             for row in 0..count {
                 if length > body.len() - place - row * length {
                     return Err(Refused { number: 26, place: place + row * length });
                 }
             }
-            gather::<PLANES>(&body[place..], length, line);
+            show(&body[place..], line);
             place += count * length;
         }
     }
@@ -65,7 +76,7 @@ fn lines<const PLANES: usize>(header: &Header, body: &[u8], frame: &mut [u8]) ->
 }
 
 /// The pixels of a line, eight at a time; the last of them may be fewer.
-fn gather<const PLANES: usize>(rows: &[u8], length: usize, line: &mut [u8]) {
+pub(super) fn gather<const PLANES: usize>(rows: &[u8], length: usize, line: &mut [u8]) {
     let whole = line.len() / 8;
     let (eights, rest) = line.split_at_mut(8 * whole);
     let planes: [&[u8]; PLANES] = std::array::from_fn(|plane| &rows[plane * length..][..whole]);

@@ -1,5 +1,6 @@
 //! Pictures of five kinds and any shape, each the same in every run.
 
+use compare::chunks::with_modes;
 use second::random::Random;
 use second::{write_picture, Fields, Header};
 
@@ -86,6 +87,9 @@ pub const KINDS: [Kind; 5] = [
     Kind { name: "dithered", draw: dithered },
 ];
 
+/// What an encoder of hold-and-modify makes of slopes of three colours.
+pub const SCANNED: Kind = Kind { name: "scanned", draw: scanned };
+
 /// The kinds that packing and writing are timed with.
 pub fn few() -> [&'static Kind; 3] {
     [&KINDS[0], &KINDS[1], &KINDS[3]]
@@ -95,6 +99,14 @@ impl Kind {
     pub fn picture(&self, shape: Shape, compression: u8, number: u64) -> Drawn {
         let frame = (self.draw)(shape, number);
         drawn_by(shape.fields(compression), frame, &[])
+    }
+
+    /// The same with this palette and these view modes.
+    pub fn coloured(&self, shape: Shape, compression: u8, number: u64, palette: &[u8], modes: u32) -> Drawn {
+        let frame = (self.draw)(shape, number);
+        let file = write_picture(&shape.fields(compression), palette, &frame, b"", usize::MAX);
+        let file = with_modes(&file.expect("a picture that can be written"), modes);
+        Drawn { frame, file }
     }
 
     /// The same with a masking: a disc shows, or all that has another colour than the first pixel.
@@ -110,6 +122,16 @@ impl Kind {
         let mask = if masking == 1 { &shown[..] } else { &[] };
         Brush { drawn: drawn_by(fields, frame, mask), shape: shown }
     }
+}
+
+/// Colour k of every palette that pictures are shown in; the first is black.
+fn colour(k: usize) -> [u8; 3] {
+    [k * 37, k * 91, k * 203].map(|part| part as u8)
+}
+
+/// A palette of so many colours.
+pub fn palette(entries: usize) -> Vec<u8> {
+    (0..entries).flat_map(colour).collect()
 }
 
 /// A picture with its shape.
@@ -178,4 +200,35 @@ fn dithered(shape: Shape, number: u64) -> Vec<u8> {
         let shade = (x * across + y * down + random.below(4)) / 8;
         shade / 16 + usize::from(ORDER[y % 4][x % 4] < shade % 16)
     })
+}
+
+/// For each pixel the code that comes nearest to a slope with some grain: an entry
+/// of the palette, or one part of the pixel to the left changed.
+fn scanned(shape: Shape, number: u64) -> Vec<u8> {
+    let mut random = Random::new(12 + number);
+    let slopes: [[usize; 2]; 3] = std::array::from_fn(|_| [random.between(1, 9), random.between(1, 9)]);
+    let bits = shape.planes - 2;
+    let low = 8 - bits;
+    let mut held = [0; 3];
+    shape.frame(|x, y| {
+        if x == 0 {
+            held = [0; 3];
+        }
+        let wanted = slopes.map(|[across, down]| ((x * across + y * down + random.below(9)) / 4 % 256) as u8);
+        let entries = (0..1 << bits).map(|k| (k, colour(k)));
+        let changed = [(2, 1), (0, 2), (1, 3)].map(|(part, mode)| {
+            let data = usize::from(wanted[part]) >> low;
+            let mut pixel = held;
+            pixel[part] = (data << low | data >> (bits - low)) as u8;
+            (mode << bits | data, pixel)
+        });
+        let (code, pixel) = entries.chain(changed).min_by_key(|(_, pixel)| far(*pixel, wanted)).unwrap();
+        held = pixel;
+        code
+    })
+}
+
+/// How far two colours are from each other.
+fn far(one: [u8; 3], other: [u8; 3]) -> u32 {
+    (0..3).map(|part| u32::from(one[part].abs_diff(other[part])).pow(2)).sum()
 }

@@ -1,13 +1,15 @@
 //! `bench [PART]`: times of the library beside the second reader and plain
 //! programs in Rust, each line in turns in one run, as medians. Of the parts
-//! structure, frames, shapes, rows, pictures and growth the one that is named, or
-//! all. Where the variable OUTSIDE names the shared object of `libavcodec.c`,
-//! frames are timed beside libavcodec too. Fails if something takes more than 2.3
-//! times as long for twice the input, a call on a picture inside many PROPs more
-//! than twice the check, or a frame with its shape or many pictures of a file far
+//! structure, frames, shapes, colours, rows, pictures and growth the one that is
+//! named, or all. Where the variable OUTSIDE names the shared object of
+//! `libavcodec.c`, frames are timed beside libavcodec too, and colours beside
+//! libavcodec and libswscale. Fails if something takes more than 2.3 times as long
+//! for twice the input, a call on a picture inside many PROPs more than twice the
+//! check, or a frame with its shape, one in colours or many pictures of a file far
 //! more than they may.
 
 mod brushes;
+mod coloured;
 mod drawn;
 mod frames;
 mod listing;
@@ -37,12 +39,15 @@ fn main() -> ExitCode {
             at_most("a picture inside many PROPs, of the check", structure::through_lists(), GREATEST_SEARCH);
         listing::against_others();
     }
+    let outside = std::env::var("OUTSIDE").ok().map(|name| Outside::load(&name));
     if asked("frames") {
-        let outside = std::env::var("OUTSIDE").ok().map(|name| Outside::load(&name));
         frames::against_others(outside.as_ref());
     }
     if asked("shapes") {
         within &= brushes::within_limits();
+    }
+    if asked("colours") {
+        within &= coloured::within_limits(outside.as_ref());
     }
     if asked("rows") {
         packing::against_others();
@@ -53,15 +58,12 @@ fn main() -> ExitCode {
     }
     if asked("growth") {
         timing::growth_heading();
-        let rows = frames::growth().max(brushes::growth()).max(packing::growth()).max(writing::growth());
-        let greatest = rows.max(structure::growth());
+        let frames = frames::growth().max(brushes::growth()).max(coloured::growth());
+        let rows = packing::growth().max(writing::growth());
+        let greatest = frames.max(rows).max(structure::growth());
         within &= at_most("twice the input", greatest, GREATEST_GROWTH);
     }
-    if within {
-        ExitCode::SUCCESS
-    } else {
-        ExitCode::FAILURE
-    }
+    ExitCode::from(u8::from(!within))
 }
 
 /// The most that a time may be beyond what is wanted, with other processes beside.
