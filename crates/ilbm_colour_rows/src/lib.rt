@@ -51,11 +51,11 @@ pub fn coloured_row(
         )
     } else {
         let half = is_half_bright(mode, planes);
-        let words = palette_words(half, palette);
+        let colours = palette_words(half, palette);
         scan_colour_row(
             false,
-            &words,
-            &words,
+            &colours,
+            &colours,
             body,
             start,
             w,

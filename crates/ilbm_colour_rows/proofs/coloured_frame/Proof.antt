@@ -1,10 +1,8 @@
 -- A frame by the tables of its mode: they make the colours of the definition, so what is told of the one is told of the other.
-use mathlib.Core.Path.{sym, _∙_}
 use native.Mathlib.Omega.{arith}
 use borrow.Author.Needs.{needs}
 use Rattle.ilbm_spec.specs.Rows.{rowLength, rowsInLine}
-use Rattle.ilbm_colour_words.proofs.Meet.{palette-pixels, holding-pixels}
-use Rattle.ilbm_colour_rows.proofs.Same.{held-planes, same-lines}
+use Rattle.ilbm_colour_rows.proofs.Same.{held-planes, same-held, same-palette, same-lines}
 use Rattle.ilbm_colour_rows.proofs.coloured_frame.Statement.{statement}
 use Rattle.ilbm_colour_rows.proofs.coloured_frame.Tie as tie
 
@@ -44,10 +42,8 @@ returns c =
     let t = set .before .before in
     let known = t .before .before .before in
     let s = known .before .before .args in
-    let hold = t .before .holds .ensures in
-    let six = held-planes (s .mode) (s .planes) _ hold (t .if1 .taken) (search needs) in
-    let same = holding-pixels (s .mode) (s .planes) (s .palette .now) (λ i. omega (arith, known .shared-slice-known2 .given i)) _ _
-    (set .before .keep-words .ensures) (set .set-words .ensures) (sym hold ∙ t .if1 .taken) six (s .w) in
+    let same = same-held (s .mode) (s .planes) (s .palette .now) (λ i. omega (arith, known .shared-slice-known2 .given i)) _
+    (t .before .holds .ensures) (s .w) _ _ (set .before .keep-words .ensures) (set .set-words .ensures) (t .if1 .taken) (search needs) in
     same-lines _ _ same (s .compression) (rowLength (s .w)) (rowsInLine (s .planes) (s .masking)) (s .body .now) (s .h) _ (s .frame .now) _
     (read .scan-colour-frame .ensures)
 
@@ -61,9 +57,9 @@ returns-2 c =
     let t = words .before .before in
     let known = t .before .before .before in
     let s = known .before .before .args in
-    let hold = t .before .holds .ensures in
-    let same = palette-pixels (s .mode) (s .planes) (s .palette .now) (λ i. omega (arith, known .shared-slice-known2 .given i)) _
-    (rw (words .before .is-half-bright .ensures) at (words .palette-words .ensures)) (sym hold ∙ t .if1 .left) (search needs) (s .w) in
+    let same = same-palette (s .mode) (s .planes) (s .palette .now) (λ i. omega (arith, known .shared-slice-known2 .given i)) _
+    (t .before .holds .ensures) (s .w) _ _ (words .before .is-half-bright .ensures) (words .palette-words .ensures) (t .if1 .left)
+    (search needs) in
     same-lines _ _ same (s .compression) (rowLength (s .w)) (rowsInLine (s .planes) (s .masking)) (s .body .now) (s .h) _ (s .frame .now) _
     (read .scan-colour-frame2 .ensures)
 
