@@ -1,4 +1,6 @@
 // Reading a file to its end, for the program that measures it (compare/run_listing.sh).
+#![tactic(auto)]
+
 ghost use Rattle.std.specs.Prelude.{◌≡◌};
 ghost use Rattle.list_spec.specs.Records.{count_of};
 

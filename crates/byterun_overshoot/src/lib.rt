@@ -1,4 +1,6 @@
 // Runs of bytes written in steps of 32: what stands behind a run may be written over, where there is room for it.
+#![tactic(auto)]
+
 ghost use Rattle.std.specs.Prelude.{◌≡◌, ◌++◌, ◌+◌, ◌≤◌, length, take, drop, replicate};
 ghost use Rattle.std.proofs.Math.Seq.{paste};
 

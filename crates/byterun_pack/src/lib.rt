@@ -1,4 +1,6 @@
 // The packer of one row by ByteRun1: that the result fits is settled before a byte is written.
+#![tactic(auto)]
+
 ghost use Rattle.std.specs.Prelude.{◌≡◌, ◌+◌, ◌-◌, ◌≤◌, ◌∷◌, [], ◌++◌, length, take, drop, ltb};
 ghost use Rattle.std.proofs.Math.Seq.{paste};
 ghost use Rattle.byterun_pack.specs.Pack.{packed, pack_of, out_after};
@@ -6,7 +8,7 @@ ghost use Rattle.byterun_pack.specs.Pack.{packed, pack_of, out_after};
 use byterun_pieces::{Piece, piece_at, plain_at, same_at, three_at};
 
 // The length of the packed row; a row of no bytes or of more than 8,192; a result longer than the buffer.
-#[derive(Drop)]
+#[derive(Clone, Copy)]
 pub enum PackAnswer {
     Written(usize),
     BadLength,

@@ -1,10 +1,12 @@
 // What stands at the left of a row that is packed by ByteRun1: three equal bytes and how many more, or how many bytes before such a
 // start.
+#![tactic(auto)]
+
 ghost use Rattle.std.specs.Prelude.{◌≡◌, ◌+◌, ◌-◌, ◌≤◌, ◌<◌, length, get_or, drop, eqb, true};
 ghost use Rattle.byterun_pieces.specs.Pieces.{three, Four, same_for, plain_for, piece_of};
 
 // What stands at the left of a row: a repeat of so many bytes, or a literal of so many.
-#[derive(Drop)]
+#[derive(Clone, Copy)]
 pub enum Piece {
     Repeat(usize),
     Literal(usize),

@@ -1,9 +1,11 @@
 // One plane row of a BODY, plain or packed by ByteRun1: what its codes ask for, and what reading it would answer.
+#![tactic(auto)]
+
 ghost use Rattle.std.specs.Prelude.{◌≡◌, ◌<◌};
 ghost use Rattle.byterun_row.specs.ByteRun.{code_of, unpack_row, plain_row, row_of, answer_of};
 
 // A row is full and the next one starts at the place, a copy or repeat at the place oversteps the row, or the BODY ends too early.
-#[derive(Drop)]
+#[derive(Clone, Copy)]
 pub enum RowAnswer {
     Full(usize),
     Oversteps(usize),
@@ -11,7 +13,7 @@ pub enum RowAnswer {
 }
 
 // What a code byte asks for: there is none; nothing; a copy; a repeat; a run that oversteps the row; a run whose data bytes are not all there.
-#[derive(Drop)]
+#[derive(Clone, Copy)]
 pub enum Code {
     Missing,
     Skip,

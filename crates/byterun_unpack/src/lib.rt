@@ -1,4 +1,6 @@
 // Writes a plane row of a BODY, plain or packed by ByteRun1.
+#![tactic(auto)]
+
 ghost use Rattle.std.specs.Prelude.{◌≡◌, ◌≤◌, length, take};
 ghost use Rattle.byterun_row.specs.ByteRun.{unpack_row, plain_row, row_of, filled, answer_of, bytes_after, IsFull};
 

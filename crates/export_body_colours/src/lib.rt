@@ -1,5 +1,7 @@
 // The exported calls on scan lines of any bytes as a BODY in colours: 0 or the number of a refusal, and 0 for what else is told but its
 // place.
+#![tactic(auto)]
+
 ghost use Rattle.std.specs.Prelude.{◌≡◌, length};
 ghost use Rattle.ilbm_spec.specs.Rows.{line_answer, frame_answer, bytes_after};
 ghost use Rattle.ilbm_spec.specs.Colours.{colour_line_in_body, colour_frame_in_body};

@@ -1,4 +1,6 @@
 // The exported calls on scan lines of any bytes as a BODY: 0 or the number of a refusal, and 0 for what else is told but its place.
+#![tactic(auto)]
+
 ghost use Rattle.std.specs.Prelude.{◌≡◌, length};
 ghost use Rattle.ilbm_spec.specs.Rows.{line_in_body, frame_in_body, line_answer, frame_answer, bytes_after};
 ghost use Rattle.export_row_numbers.specs.Rows.{line_numbers, frame_numbers};

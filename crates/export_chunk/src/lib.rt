@@ -1,5 +1,7 @@
 // The exported calls on one chunk of a file: numbers and byte slices, each call a few lines over a proved one.
 // Each returns 0 or the number of a refusal; whatever else it tells is 0 beside a refusal, but its place.
+#![tactic(auto)]
+
 ghost use Rattle.std.specs.Prelude.{◌≡◌};
 ghost use Rattle.std.proofs.Math.Seq.{slice};
 ghost use Rattle.list_spec.specs.Records.{record_of};

@@ -1,4 +1,6 @@
 // The exported call on a BMHD by its bytes alone: 0 or the number of a refusal, and beside a refusal every field 0.
+#![tactic(auto)]
+
 ghost use Rattle.std.specs.Prelude.{◌≡◌};
 ghost use Rattle.export_fields.specs.Fields.{bmhd_numbers};
 
@@ -6,7 +8,7 @@ use ilbm_fields::{bitmap_header, no_header};
 use ilbm_spec::BitmapHeader;
 
 // What is told of a BMHD.
-#[derive(Drop)]
+#[derive(Clone, Copy)]
 pub struct BmhdNumbers {
     pub number: usize,
     pub header: BitmapHeader,

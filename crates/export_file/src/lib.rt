@@ -1,5 +1,7 @@
 // The exported calls on a file as a whole: numbers and byte slices, each call a few lines over a proved one.
 // Each returns 0 or the number of a refusal; whatever else it tells is 0 beside a refusal, but its place.
+#![tactic(auto)]
+
 ghost use Rattle.std.specs.Prelude.{◌≡◌, length};
 ghost use Rattle.iff_tree.specs.Judge.{check_of};
 ghost use Rattle.iff_copy.specs.Clean.{copy_of, copied_into};

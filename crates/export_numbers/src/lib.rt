@@ -1,1 +1,2 @@
 // What the exported calls have in common: definitions alone.
+#![tactic(auto)]

@@ -1,5 +1,7 @@
 // The exported call on a picture's palette. It returns 0 or the number of a refusal; whatever else it tells is 0 beside a refusal, but
 // its place.
+#![tactic(auto)]
+
 ghost use Rattle.std.specs.Prelude.{◌≡◌, []};
 ghost use Rattle.std.proofs.Math.Seq.{slice};
 ghost use Rattle.ilbm_spec.specs.Palette.{palette_answer};
@@ -9,7 +11,7 @@ use ilbm_find::{View, view_picture};
 use ilbm_numbers::{origin_number, part_from, part_to, shared_place};
 
 // What is told of the CMAP that counts: its origin, and its part of the file.
-#[derive(Drop)]
+#[derive(Clone, Copy)]
 pub struct PaletteParts {
     pub number: usize,
     pub place: usize,

@@ -1,4 +1,6 @@
 // The exported call that fills the table of a file's pictures: 0 or the number of a refusal, and 0 for what else is told but its place.
+#![tactic(auto)]
+
 ghost use Rattle.std.specs.Prelude.{◌≡◌, length};
 ghost use Rattle.ilbm_spec.specs.Table.{table_of, table_answer, table_after};
 ghost use Rattle.export_pictures.specs.Numbers.{pictures_numbers};

@@ -1,5 +1,7 @@
 // The exported calls on a picture's properties but its palette. Each returns 0 or the number of a refusal; whatever else it tells is 0 beside
 // a refusal, but its place.
+#![tactic(auto)]
+
 ghost use Rattle.std.specs.Prelude.{◌≡◌};
 ghost use Rattle.ilbm_spec.specs.Pictures.{picture_of};
 ghost use Rattle.export_property_numbers.specs.Properties.{header_numbers, grab_numbers, destination_numbers, sprite_numbers, view_mode_numbers};

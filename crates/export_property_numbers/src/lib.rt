@@ -1,4 +1,6 @@
 // Each answer on a picture's properties as the numbers that the exported calls tell of it.
+#![tactic(auto)]
+
 ghost use Rattle.std.specs.Prelude.{◌≡◌};
 ghost use Rattle.export_property_numbers.specs.Properties.{header_numbers, grab_numbers, destination_numbers, sprite_numbers, view_mode_numbers};
 
@@ -6,7 +8,7 @@ use ilbm_numbers::{origin_number, shared_place};
 use ilbm_spec::{BitmapHeader, Destination, HotSpot, PictureAnswer};
 
 // What is told of the BMHD that counts.
-#[derive(Drop)]
+#[derive(Clone, Copy)]
 pub struct HeaderNumbers {
     pub number: usize,
     pub place: usize,
@@ -55,7 +57,7 @@ pub fn header_numbers(v: PictureAnswer) -> HeaderNumbers
 }
 
 // What is told of the GRAB that counts.
-#[derive(Drop)]
+#[derive(Clone, Copy)]
 pub struct GrabNumbers {
     pub number: usize,
     pub place: usize,
@@ -90,7 +92,7 @@ pub fn grab_numbers(v: PictureAnswer) -> GrabNumbers
 }
 
 // What is told of the DEST that counts.
-#[derive(Drop)]
+#[derive(Clone, Copy)]
 pub struct DestinationNumbers {
     pub number: usize,
     pub place: usize,
@@ -131,7 +133,7 @@ pub fn destination_numbers(v: PictureAnswer) -> DestinationNumbers
 }
 
 // What is told of the SPRT that counts.
-#[derive(Drop)]
+#[derive(Clone, Copy)]
 pub struct SpriteNumbers {
     pub number: usize,
     pub place: usize,
@@ -166,7 +168,7 @@ pub fn sprite_numbers(v: PictureAnswer) -> SpriteNumbers
 }
 
 // What is told of the CAMG that counts.
-#[derive(Drop)]
+#[derive(Clone, Copy)]
 pub struct ViewModeNumbers {
     pub number: usize,
     pub place: usize,

@@ -1,4 +1,6 @@
 // The answers on scan lines and frames as numbers: 0 or the number of a refusal, its place, and 0 for what else is told with it.
+#![tactic(auto)]
+
 ghost use Rattle.std.specs.Prelude.{◌≡◌};
 ghost use Rattle.export_row_numbers.specs.Rows.{line_numbers, frame_numbers};
 

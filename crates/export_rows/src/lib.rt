@@ -1,4 +1,6 @@
 // The exported calls on scan lines of a picture: 0 or the number of a refusal, and 0 for what else is told but its place.
+#![tactic(auto)]
+
 ghost use Rattle.std.specs.Prelude.{◌≡◌, length};
 ghost use Rattle.ilbm_spec.specs.Rows.{line_of, frame_of, line_answer, frame_answer, bytes_after};
 ghost use Rattle.export_row_numbers.specs.Rows.{line_numbers, frame_numbers};

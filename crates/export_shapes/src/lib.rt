@@ -1,4 +1,6 @@
 // The exported calls on scan lines of a picture with their shape: 0 or the number of a refusal, and 0 for what else is told but its place.
+#![tactic(auto)]
+
 ghost use Rattle.std.specs.Prelude.{◌≡◌, length};
 ghost use Rattle.ilbm_spec.specs.Rows.{line_answer, frame_answer};
 ghost use Rattle.ilbm_spec.specs.Shapes.{shape_line_of, shape_frame_of, colours_after, shape_after};

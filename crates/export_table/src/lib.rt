@@ -1,5 +1,7 @@
 // The exported call that lists a whole file: the table of its records, one lent column for each field, filled in one walk.
 // It returns 0 or the number of a refusal; the count is 0 beside a refusal, and no column is changed then.
+#![tactic(auto)]
+
 ghost use Rattle.std.specs.Prelude.{◌≡◌};
 ghost use Rattle.iff_tree.specs.Judge.{check_of};
 ghost use Rattle.list_capacity.specs.Capacity.{answer_of};
@@ -10,7 +12,7 @@ use iff_tree::Verdict;
 use list_column_table::fill_table;
 
 // An answer as numbers.
-#[derive(Drop)]
+#[derive(Clone, Copy)]
 struct Answer {
     number: usize,
     place: usize,

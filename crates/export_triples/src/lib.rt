@@ -1,4 +1,6 @@
 // The exported calls on a palette as triples: 0 or the number of a refusal, which leaves the lent bytes.
+#![tactic(auto)]
+
 ghost use Rattle.std.specs.Prelude.{◌≡◌, length};
 ghost use Rattle.ilbm_spec.specs.Triples.{triples_by, triples_of};
 ghost use Rattle.export_triples.specs.Call.{room_number, bytes_after, triples_call};

@@ -1,4 +1,6 @@
 // The exported packer and picture writer: 0 and the length of what was written, or the number of a refusal and 0.
+#![tactic(auto)]
+
 ghost use Rattle.std.specs.Prelude.{◌≡◌, length};
 ghost use Rattle.byterun_pack.specs.Pack.{pack_of, out_after as packedInto};
 ghost use Rattle.write_form.specs.File.{picture_file};

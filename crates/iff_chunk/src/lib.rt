@@ -1,4 +1,6 @@
 // What is read of a chunk's header: its name, its size and the place after the chunk.
+#![tactic(auto)]
+
 ghost use Rattle.std.specs.Prelude.{◌≡◌, ◌+◌, ◌*◌, ◌≤◌, ◌<◌, length};
 ghost use Rattle.iff_chunk.specs.Chunks.{word, next_at};
 

@@ -1,4 +1,6 @@
 // The clean copy of a file: no trailing bytes, every pad zero.
+#![tactic(auto)]
+
 ghost use Rattle.std.specs.Prelude.{◌≡◌, ◌++◌, ◌+◌, ◌≤◌, length, take, drop};
 ghost use Rattle.iff_walk.specs.Order.{following};
 ghost use Rattle.iff_walk.specs.Coming.{Sound};
@@ -8,7 +10,7 @@ ghost use Rattle.iff_copy.specs.Pads.{pad_zeroed};
 use iff_tree::Verdict;
 
 // The length of the copy, or the number and place of a refusal.
-#[derive(Drop)]
+#[derive(Clone, Copy)]
 pub enum Copied {
     Written(usize),
     Refused { number: usize, place: usize },

@@ -1,4 +1,6 @@
 // The checks of one chunk's header, with 01's numbers in 01's order.
+#![tactic(auto)]
+
 ghost use Rattle.std.specs.Prelude.{◌≡◌, ◌+◌, ◌≤◌, length};
 ghost use Rattle.iff_name.specs.Name.{kind_of};
 ghost use Rattle.iff_chunk.specs.Chunks.{word};
@@ -11,7 +13,7 @@ use iff_repeated_props::second_prop;
 use iff_rules::{Position, group_type, is_group, misplaced};
 
 // A header: refused with a number, of a chunk with so much data, or of a group with its size.
-#[derive(Drop)]
+#[derive(Clone, Copy)]
 pub enum Header {
     Refused(usize),
     Leaf(usize),

@@ -1,4 +1,6 @@
 // The four-byte names of EA IFF 85: the reserved ones, and the tests on a name.
+#![tactic(auto)]
+
 ghost use Rattle.std.specs.Prelude.{◌≡◌};
 ghost use Rattle.iff_name.specs.Name.{
   printable,
@@ -14,13 +16,13 @@ ghost use Rattle.iff_name.specs.Name.{
 };
 
 // A name as one number, its first byte the highest. Names are compared exactly, case included.
-#[derive(Drop)]
+#[derive(Clone, Copy)]
 pub struct Name {
     pub code: u32,
 }
 
 // What a chunk's name makes of the chunk.
-#[derive(Drop)]
+#[derive(Clone, Copy)]
 pub enum Kind {
     FORM,
     LIST,

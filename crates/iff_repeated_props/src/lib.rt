@@ -1,5 +1,7 @@
 // Whether a PROP is the second of its type in its LIST. For a long run of PROPs the types are flagged first, so that the walk need not
 // look back from each.
+#![tactic(auto)]
+
 ghost use Rattle.std.specs.Prelude.{◌≡◌, ◌+◌, ◌-◌, ◌≤◌, length};
 ghost use Rattle.iff_name.specs.Name.{kind_of};
 ghost use Rattle.iff_chunk.specs.Chunks.{word};
@@ -12,7 +14,7 @@ use iff_rules::Position;
 use iff_type_flags::fresh_in_class;
 
 // Where a run of PROPs and filler ends, and how many chunks it has.
-#[derive(Drop)]
+#[derive(Clone, Copy)]
 struct Run {
     end: usize,
     chunks: usize,

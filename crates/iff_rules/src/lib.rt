@@ -1,4 +1,6 @@
 // The rules of what may stand where.
+#![tactic(auto)]
+
 ghost use Rattle.std.specs.Prelude.{◌≡◌};
 ghost use Rattle.iff_name.specs.Name.{kind_of};
 ghost use Rattle.iff_rules.specs.Rules.{
@@ -15,7 +17,7 @@ use iff_name::{Kind, Name, kind_number};
 
 // Where a chunk stands: by itself, in a FORM, in a PROP, in a LIST with no FORM, LIST or CAT before it,
 // or in a CAT or the rest of a LIST.
-#[derive(Drop)]
+#[derive(Clone, Copy)]
 pub enum Position {
     Outermost,
     InForm,

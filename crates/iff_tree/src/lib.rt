@@ -1,4 +1,6 @@
 // The chunk tree of EA IFF 85: any bytes are judged, with 01's numbers in 01's order.
+#![tactic(auto)]
+
 ghost use Rattle.std.specs.Prelude.{◌≡◌, ◌-◌, ◌≤◌, length};
 ghost use Rattle.iff_rules.specs.declared.Position.TheVariants.{Outermost};
 ghost use Rattle.iff_repeated_props.specs.Repeats.{Settled};
@@ -22,7 +24,7 @@ use iff_repeated_props::fresh_in_group;
 use iff_rules::{Position, after, inside, is_section};
 
 // The answer of the check.
-#[derive(Drop)]
+#[derive(Clone, Copy)]
 pub enum Verdict {
     Accepted {
         chunks: usize,
@@ -36,14 +38,14 @@ pub enum Verdict {
 }
 
 // After a chunk: the next one's position, the chunks so far and the next place; or a refusal.
-#[derive(Drop)]
+#[derive(Clone, Copy)]
 pub enum Step {
     Next(Position, usize, usize),
     Refused(usize, usize),
 }
 
 // After a group's members: the chunks so far; or a refusal.
-#[derive(Drop)]
+#[derive(Clone, Copy)]
 pub enum Walked {
     Whole(usize),
     Refused(usize, usize),

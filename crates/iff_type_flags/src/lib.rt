@@ -1,4 +1,6 @@
 // Flags for the types of one class: a place before which each PROP of that class is the first of its type.
+#![tactic(auto)]
+
 ghost use Rattle.std.specs.Prelude.{◌≡◌, ◌+◌, ◌-◌, ◌≤◌, ◌<◌, length, get_or, eqb};
 ghost use Rattle.iff_name.specs.Name.{both};
 ghost use Rattle.iff_chunk.specs.Chunks.{word};

@@ -1,4 +1,6 @@
 // The scan line and the frame of any bytes as a BODY in colours, by its header's numbers, the number that CAMG holds and the palette.
+#![tactic(auto)]
+
 ghost use Rattle.std.specs.Prelude.{◌≡◌, false, ◌≤◌, length};
 ghost use Rattle.ilbm_spec.specs.Rows.{line_answer, frame_answer, bytes_after};
 ghost use Rattle.ilbm_spec.specs.Colours.{wrong_planes, body_colour_line, body_colour_frame};

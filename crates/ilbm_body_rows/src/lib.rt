@@ -1,4 +1,6 @@
 // The scan line and the frame of any bytes as a BODY, by its header's numbers.
+#![tactic(auto)]
+
 ghost use Rattle.std.specs.Prelude.{◌≡◌, ◌-◌, ◌≤◌, length};
 ghost use Rattle.ilbm_spec.specs.Pictures.{empty_fields, fields_refusal};
 ghost use Rattle.ilbm_spec.specs.Rows.{body_line, body_frame, line_in_body, frame_in_body, line_answer, frame_answer, bytes_after};

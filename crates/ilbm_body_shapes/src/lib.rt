@@ -1,4 +1,6 @@
 // The scan line and the frame of any bytes as a BODY with their shape, by its header's numbers.
+#![tactic(auto)]
+
 ghost use Rattle.std.specs.Prelude.{◌≡◌, ◌≤◌, eqb, length};
 ghost use Rattle.iff_name.specs.Name.{both};
 ghost use Rattle.ilbm_spec.specs.Rows.{line_answer, frame_answer};

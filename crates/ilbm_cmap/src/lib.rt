@@ -1,4 +1,6 @@
 // The palette of a picture.
+#![tactic(auto)]
+
 ghost use Rattle.std.specs.Prelude.{◌≡◌};
 ghost use Rattle.ilbm_spec.specs.Palette.{palette_answer, palette_source, pointer};
 ghost use Rattle.ilbm_cmap.specs.Parts.{PartIn, part_or, part_at, ColoursAre};
@@ -7,7 +9,7 @@ use ilbm_content::Part;
 use ilbm_find::{View, view_picture};
 
 // The palette that was asked for: 0 and 0, or the number and place of a refusal; and its colours, three bytes each.
-#[derive(Drop)]
+#[derive(Clone, Copy)]
 pub struct PaletteAnswer<'a> {
     pub number: usize,
     pub place: usize,
@@ -15,7 +17,7 @@ pub struct PaletteAnswer<'a> {
 }
 
 // The same with the colours as a part of the file; no part where the default is meant.
-#[derive(Drop)]
+#[derive(Clone, Copy)]
 pub struct Colours {
     pub number: usize,
     pub place: usize,

@@ -1,5 +1,7 @@
 // The colours of a scan line, made in the row itself: the colour numbers stand in its last third, and the three bytes of each pixel are
 // written from its front on, never past the number that is read next.
+#![tactic(auto)]
+
 ghost use Rattle.std.specs.Prelude.{◌≡◌, [], ◌∷◌, ◌+◌, ◌*◌, ◌/◌, ◌%◌, ◌≤◌, length, drop, get_or};
 ghost use Rattle.std.proofs.Math.Seq.{paste};
 ghost use Rattle.ilbm_colour_words.specs.Words.{word_bytes, by_palette, by_holding, carried_words};

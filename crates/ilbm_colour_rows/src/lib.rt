@@ -1,4 +1,6 @@
 // A scan line and a frame of a BODY in colours, by the tables that the mode and the palette make.
+#![tactic(auto)]
+
 ghost use Rattle.std.specs.Prelude.{◌≡◌, false, ◌*◌, ◌≤◌, length};
 ghost use Rattle.ilbm_spec.specs.Rows.{row_length, rows_in_line, line_with, lines_with, line_answer, bytes_after};
 ghost use Rattle.ilbm_spec.specs.Colours.{pixel_colour, coloured, wrong_planes};

@@ -1,4 +1,6 @@
 // The tables of 256 numbers by which the colours of a scan line are made, a colour as one number each.
+#![tactic(auto)]
+
 ghost use Rattle.std.specs.Prelude.{◌≡◌, ℕ, ◌-◌, ◌^◌, ◌≤◌, ◌<◌};
 ghost use Rattle.ilbm_spec.specs.Colours.{black, level, number_colour};
 ghost use Rattle.ilbm_colour_words.specs.Words.{packed, keep_of, set_of, SixOrEight, IsPalette, IsKeep, IsSet};

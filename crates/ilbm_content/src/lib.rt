@@ -1,4 +1,6 @@
 // The content of the picture in a FORM: each property that counts, with its origin, and the BODYs, as parts of the file.
+#![tactic(auto)]
+
 ghost use Rattle.std.specs.Prelude.{◌+◌};
 ghost use Rattle.ilbm_members.specs.Members.{Row};
 ghost use Rattle.ilbm_locate.specs.Scopes.{Scoped};
@@ -10,21 +12,21 @@ use ilbm_members::gather;
 use ilbm_spec::Origin;
 
 // A part of the file, from a place up to another, or nothing.
-#[derive(Drop)]
+#[derive(Clone, Copy)]
 pub enum Part {
     Nothing,
     Between(usize, usize),
 }
 
 // A property's data, and where it comes from.
-#[derive(Drop)]
+#[derive(Clone, Copy)]
 pub struct Held {
     pub part: Part,
     pub origin: Origin,
 }
 
 // The six properties, how many BODYs there are, and the first one's data.
-#[derive(Drop)]
+#[derive(Clone, Copy)]
 pub struct Contents {
     pub bmhd: Held,
     pub cmap: Held,

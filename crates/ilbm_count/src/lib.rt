@@ -1,4 +1,6 @@
 // Counts the pictures of a file, by one pass over its chunks in file order.
+#![tactic(auto)]
+
 ghost use Rattle.std.specs.Prelude.{◌≡◌, ◌+◌, ◌<◌};
 ghost use Rattle.iff_walk.specs.Order.{following};
 ghost use Rattle.iff_walk.specs.Coming.{Sound};
@@ -11,7 +13,7 @@ use iff_tree::{Verdict, check};
 use ilbm_names::is_picture;
 
 // How many pictures there are, or the number and place of a refusal.
-#[derive(Drop)]
+#[derive(Clone, Copy)]
 pub enum Counted {
     Pictures(usize),
     Refused { number: usize, place: usize },

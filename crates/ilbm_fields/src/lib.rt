@@ -1,4 +1,6 @@
 // The fields in the data of a picture's properties, and the refusals of a header by its fields.
+#![tactic(auto)]
+
 ghost use Rattle.std.specs.Prelude.{◌≡◌, [], ◌+◌, ◌*◌, ◌≤◌, length};
 ghost use Rattle.iff_chunk.specs.Chunks.{word};
 ghost use Rattle.ilbm_spec.specs.Pictures.{u16, signed, header_in, hot_spot_in, destination_in, empty_fields, fields_refusal};

@@ -1,4 +1,6 @@
 // The picture of a given number: judged, and its content told as parts of the file.
+#![tactic(auto)]
+
 ghost use Rattle.iff_walk.specs.Coming.{Sound};
 ghost use Rattle.ilbm_spec.specs.Pictures.{view_of};
 ghost use Rattle.ilbm_find.specs.Seen.{ViewIs, FormIn, FormView};
@@ -11,7 +13,7 @@ use ilbm_refusals::judge;
 use ilbm_spec::BitmapHeader;
 
 // A picture's content and its header, or the number and place of a refusal.
-#[derive(Drop)]
+#[derive(Clone, Copy)]
 pub enum View {
     Seen(Contents, BitmapHeader),
     Refused(usize, usize),

@@ -1,5 +1,7 @@
 // The colour numbers of a row of pixels, gathered from its plane rows by the table of spread bytes: the eight pixels of a byte at a time,
 // and the last of them one by one.
+#![tactic(auto)]
+
 ghost use Rattle.std.specs.Prelude.{◌≡◌, ◌+◌, ◌*◌, ◌/◌, ◌≤◌, ◌<◌, length, take};
 ghost use Rattle.std.proofs.Math.Seq.{paste};
 ghost use Rattle.ilbm_spec.specs.Rows.{colour_by, colours_from};

@@ -1,4 +1,6 @@
 // Finds the picture of a given number in a sound file, and what the PROPs around it share.
+#![tactic(auto)]
+
 ghost use Rattle.std.specs.Prelude.{◌+◌, ◌<◌, ◌≡◌};
 ghost use Rattle.ilbm_spec.specs.Names.{is_shared_prop};
 ghost use Rattle.ilbm_members.specs.Members.{Row};
@@ -12,14 +14,14 @@ use ilbm_members::{gather, sibling_at};
 use ilbm_names::{is_picture, is_shared_prop};
 
 // A property that a PROP shares: the PROP's place, and the property's own, 0 for none.
-#[derive(Drop)]
+#[derive(Clone, Copy)]
 pub struct Shared {
     pub prop: usize,
     pub place: usize,
 }
 
 // What the PROPs around a chunk share.
-#[derive(Drop)]
+#[derive(Clone, Copy)]
 pub struct Scope {
     pub bmhd: Shared,
     pub cmap: Shared,
@@ -30,7 +32,7 @@ pub struct Scope {
 }
 
 // The FORM's place and what is shared there; or how many pictures are left to pass.
-#[derive(Drop)]
+#[derive(Clone, Copy)]
 pub enum Spot {
     Here(usize, Scope),
     Left(usize),

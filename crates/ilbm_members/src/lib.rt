@@ -1,4 +1,6 @@
 // The members of one group of a sound file, by a loop over their places.
+#![tactic(auto)]
+
 ghost use Rattle.std.specs.Prelude.{◌≡◌, ◌<◌, ◌≤◌};
 ghost use Rattle.iff_name.specs.Name.{pick};
 ghost use Rattle.ilbm_members.specs.Members.{Row, Tells};
@@ -9,7 +11,7 @@ use iff_name::Name;
 use ilbm_names::{BMHD, BODY, CAMG, CMAP, DEST, GRAB, SPRT};
 
 // One member: its name, and where the next member stands.
-#[derive(Drop)]
+#[derive(Clone, Copy)]
 pub struct Sibling {
     pub name: Name,
     pub next: usize,
@@ -29,7 +31,7 @@ pub fn sibling_at(s: &[u8], p: usize, e: usize) -> Sibling
 
 // Where the chunks stand that count among the members of a group, 0 for none: the last of each property's name, and the first BODY;
 // and how many BODYs there are.
-#[derive(Drop)]
+#[derive(Clone, Copy)]
 pub struct Gathered {
     pub bmhd: usize,
     pub cmap: usize,

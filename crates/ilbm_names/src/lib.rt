@@ -1,4 +1,6 @@
 // The names that matter in a picture, and which groups are a picture or are shared by one.
+#![tactic(auto)]
+
 ghost use Rattle.std.specs.Prelude.{◌≡◌};
 ghost use Rattle.ilbm_spec.specs.Names.{is_picture, is_shared_prop};
 

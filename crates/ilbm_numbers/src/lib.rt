@@ -1,4 +1,6 @@
 // Where a property comes from and where its data lies, as the numbers that are told of it.
+#![tactic(auto)]
+
 ghost use Rattle.std.specs.Prelude.{◌≡◌};
 ghost use Rattle.ilbm_spec.specs.Table.{origin_number, shared_place};
 ghost use Rattle.ilbm_numbers.specs.Parts.{from_of, to_of};

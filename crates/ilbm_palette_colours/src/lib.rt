@@ -1,4 +1,6 @@
 // The colours of a palette's entries, and those that it gives to colour numbers.
+#![tactic(auto)]
+
 ghost use Rattle.std.specs.Prelude.{◌≡◌};
 ghost use Rattle.ilbm_spec.specs.Colours.{entry_at, halved, holds, is_half_bright, number_colour};
 

@@ -1,4 +1,6 @@
 // The plane rows of a BODY: judged with no byte written, and written as a scan line once they are known to be sound.
+#![tactic(auto)]
+
 ghost use Rattle.std.specs.Prelude.{◌≡◌, ◌+◌, ◌*◌, ◌≤◌, length};
 ghost use Rattle.iff_tree.specs.Judge.{found};
 ghost use Rattle.ilbm_spec.specs.Rows.{row_length, rows_in_line, IsRead, rows_from, line_by, line_answer};

@@ -1,4 +1,6 @@
 // The picture call.
+#![tactic(auto)]
+
 ghost use Rattle.std.specs.Prelude.{◌≡◌};
 ghost use Rattle.ilbm_spec.specs.Pictures.{picture_of};
 ghost use Rattle.ilbm_find.specs.Seen.{Judged};

@@ -1,4 +1,6 @@
 // The refusals of a picture by its content: 21 to 23, and those of its header.
+#![tactic(auto)]
+
 ghost use Rattle.std.specs.Prelude.{◌≡◌};
 ghost use Rattle.ilbm_spec.specs.Pictures.{header_refusal};
 ghost use Rattle.ilbm_refusals.specs.Refusals.{Sized, Full, SizeIs, TriplesIs, SizesAre, JudgementIs};
@@ -9,7 +11,7 @@ use ilbm_fields::{bitmap_header, empty_fields, fields_refusal, no_header};
 use ilbm_spec::BitmapHeader;
 
 // 0 or the number of a refusal; and with 0 the header, read once for all calls.
-#[derive(Drop)]
+#[derive(Clone, Copy)]
 pub struct Judgement {
     pub number: usize,
     pub header: BitmapHeader,

@@ -1,4 +1,6 @@
 // The scan line and the frame of a picture.
+#![tactic(auto)]
+
 ghost use Rattle.std.specs.Prelude.{◌≡◌, length};
 ghost use Rattle.ilbm_spec.specs.Rows.{line_of, frame_of, line_answer, frame_answer, bytes_after};
 ghost use Rattle.ilbm_find.specs.Seen.{Judged};

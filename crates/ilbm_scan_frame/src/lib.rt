@@ -1,4 +1,6 @@
 // A frame of a BODY: every plane row is judged before the first byte is written.
+#![tactic(auto)]
+
 ghost use Rattle.std.specs.Prelude.{◌≡◌, ◌+◌, ◌*◌, ◌≤◌, length};
 ghost use Rattle.iff_tree.specs.Judge.{found};
 ghost use Rattle.ilbm_spread.specs.Spread.{IsSpread};

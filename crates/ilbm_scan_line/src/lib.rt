@@ -1,4 +1,6 @@
 // A scan line of a BODY: every plane row is judged before the first byte is written.
+#![tactic(auto)]
+
 ghost use Rattle.std.specs.Prelude.{◌≡◌, ◌+◌, ◌*◌, ◌≤◌, length};
 ghost use Rattle.ilbm_spec.specs.Rows.{row_length, rows_in_line, line_by, line_answer, bytes_after};
 

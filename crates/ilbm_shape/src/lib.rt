@@ -1,4 +1,6 @@
 // The shape of a scan line, by its masking: which of its pixels are there.
+#![tactic(auto)]
+
 ghost use Rattle.std.specs.Prelude.{◌≡◌, ◌+◌, ◌*◌, ◌≤◌, eqb, length, replicate};
 ghost use Rattle.iff_name.specs.Name.{pick};
 ghost use Rattle.ilbm_spec.specs.Rows.{mask_rows, rows_in_line, colours_from};

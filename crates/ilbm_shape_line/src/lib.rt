@@ -1,4 +1,6 @@
 // A scan line of a BODY with its shape: every plane row is judged before the first byte is written.
+#![tactic(auto)]
+
 ghost use Rattle.std.specs.Prelude.{◌≡◌, ◌*◌, ◌≤◌, length};
 ghost use Rattle.iff_tree.specs.Judge.{found};
 ghost use Rattle.ilbm_spec.specs.Rows.{row_length, mask_rows, rows_in_line, IsRead, rows_from, colours_from, line_with, line_by, line_answer};

@@ -1,4 +1,6 @@
 // The scan line and the frame of a picture with their shape.
+#![tactic(auto)]
+
 ghost use Rattle.std.specs.Prelude.{◌≡◌, length};
 ghost use Rattle.ilbm_spec.specs.Rows.{line_answer, frame_answer};
 ghost use Rattle.ilbm_spec.specs.Shapes.{shape_line_of, shape_frame_of, colours_after, shape_after};

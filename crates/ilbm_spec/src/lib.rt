@@ -1,7 +1,8 @@
 // What a FORM ILBM tells: the types of its answers. The definitions are in specs/.
+#![tactic(auto)]
 
 // Where a property comes from: the FORM itself, a shared PROP at a place, or nowhere.
-#[derive(Drop)]
+#[derive(Clone, Copy)]
 pub enum Origin {
     Own,
     Shared(usize),
@@ -9,7 +10,7 @@ pub enum Origin {
 }
 
 // The fields of BMHD.
-#[derive(Drop)]
+#[derive(Clone, Copy)]
 pub struct BitmapHeader {
     pub w: u16,
     pub h: u16,
@@ -27,14 +28,14 @@ pub struct BitmapHeader {
 }
 
 // The fields of GRAB.
-#[derive(Drop)]
+#[derive(Clone, Copy)]
 pub struct HotSpot {
     pub x: i16,
     pub y: i16,
 }
 
 // The fields of DEST.
-#[derive(Drop)]
+#[derive(Clone, Copy)]
 pub struct Destination {
     pub depth: u8,
     pub pad1: u8,
@@ -44,7 +45,7 @@ pub struct Destination {
 }
 
 // A picture's properties, each with its origin; the fields of an absent one are 0. The bytes of CMAP are the palette's.
-#[derive(Drop)]
+#[derive(Clone, Copy)]
 pub struct Picture {
     pub header: BitmapHeader,
     pub header_from: Origin,
@@ -60,14 +61,14 @@ pub struct Picture {
 }
 
 // The picture that was asked for, or the number and place of a refusal.
-#[derive(Drop)]
+#[derive(Clone, Copy)]
 pub enum PictureAnswer {
     Shown(Picture),
     Refused { number: usize, place: usize },
 }
 
 // The colour of a pixel or of a palette's entry.
-#[derive(Drop)]
+#[derive(Clone, Copy)]
 pub struct Colour {
     pub red: u8,
     pub green: u8,
@@ -75,21 +76,21 @@ pub struct Colour {
 }
 
 // A scan line's next place, or the number and place of a refusal.
-#[derive(Drop)]
+#[derive(Clone, Copy)]
 pub enum LineAnswer {
     Next(usize),
     Refused { number: usize, place: usize },
 }
 
 // The bytes left over after a frame, or the number and place of a refusal.
-#[derive(Drop)]
+#[derive(Clone, Copy)]
 pub enum FrameAnswer {
     Leftover(usize),
     Refused { number: usize, place: usize },
 }
 
 // How many pictures a table tells, or the number and place of a refusal.
-#[derive(Drop)]
+#[derive(Clone, Copy)]
 pub enum TableAnswer {
     Pictures(usize),
     Refused { number: usize, place: usize },

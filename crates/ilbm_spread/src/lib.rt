@@ -1,4 +1,6 @@
 // The bits of each byte, spread over the eight bytes of a word: one constant table, so that eight pixels of a plane are one look-up.
+#![tactic(auto)]
+
 ghost use Rattle.ilbm_spread.specs.Spread.{IsSpread};
 
 const SPREAD: [u64; 256] = [

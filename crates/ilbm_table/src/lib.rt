@@ -1,4 +1,6 @@
 // The table of a file's pictures, filled in one walk over its chunks.
+#![tactic(auto)]
+
 ghost use Rattle.std.specs.Prelude.{◌+◌, ◌<◌, ◌≤◌, ◌≡◌, length};
 ghost use Rattle.iff_walk.specs.Coming.{Sound};
 ghost use Rattle.ilbm_spec.specs.Table.{table_of, table_answer, table_after};

@@ -1,4 +1,6 @@
 // One picture's row in the table of pictures.
+#![tactic(auto)]
+
 ghost use Rattle.std.specs.Prelude.{◌≡◌, [], ◌∷◌, ◌++◌, ◌+◌, ◌≤◌, length};
 ghost use Rattle.ilbm_spec.specs.Names.{ILBM as ILBM-code};
 ghost use Rattle.ilbm_find.specs.Seen.{FormIn};

@@ -1,4 +1,6 @@
 // The palette of a picture as 64 triples.
+#![tactic(auto)]
+
 ghost use Rattle.std.specs.Prelude.{◌≡◌};
 ghost use Rattle.ilbm_spec.specs.Triples.{triples_by, triples_of};
 ghost use Rattle.ilbm_find.specs.Seen.{Judged};

@@ -1,4 +1,6 @@
 // One record by its number.
+#![tactic(auto)]
+
 ghost use Rattle.std.specs.Prelude.{◌≡◌, ◌<◌};
 ghost use Rattle.list_spec.specs.declared.Listed.TheVariants.{Chunk as Listed-chunk};
 ghost use Rattle.list_spec.specs.Records.{count_of, record_of};

@@ -1,4 +1,6 @@
 // The answer for a file and a lent table of so many places, and how many records are put into it.
+#![tactic(auto)]
+
 ghost use Rattle.std.specs.Prelude.{◌≡◌};
 ghost use Rattle.iff_tree.specs.Judge.{check_of};
 ghost use Rattle.list_capacity.specs.Capacity.{answer_of, to_put, Ready};

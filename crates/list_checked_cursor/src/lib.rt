@@ -1,4 +1,6 @@
 // The functions that take any cursor, also one that no walk of the file has led there.
+#![tactic(auto)]
+
 ghost use Rattle.std.specs.Prelude.{◌≡◌, ◌≤◌, ◌<◌};
 ghost use Rattle.list_checked_cursor.specs.Checked.{group_lies, plain_lies, lies_at, read_at, moved_at};
 

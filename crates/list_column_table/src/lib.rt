@@ -1,4 +1,6 @@
 // The table of a file's records, filled in file order: one lent column for each field of a record.
+#![tactic(auto)]
+
 ghost use Rattle.list_column_table.specs.Table.{room_of, Filled};
 
 use iff_tree::Verdict;

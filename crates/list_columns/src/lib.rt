@@ -1,4 +1,6 @@
 // The columns of a lent table of records, one for each field of a record, filled in file order.
+#![tactic(auto)]
+
 ghost use Rattle.std.specs.Prelude.{◌≡◌, ◌≤◌, ◌<◌, min, length, set, take};
 ghost use Rattle.iff_tree.specs.Judge.{read_file};
 ghost use Rattle.list_capacity.specs.Capacity.{records_in, Ready};

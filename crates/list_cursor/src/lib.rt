@@ -1,4 +1,6 @@
 // A cursor that goes through the chunks of an accepted file in file order.
+#![tactic(auto)]
+
 ghost use Rattle.std.specs.Prelude.{◌≡◌, ◌+◌, ◌≤◌, ◌<◌};
 ghost use Rattle.list_spec.specs.declared.Listed.TheVariants.{Chunk as Listed-chunk};
 ghost use Rattle.list_spec.specs.Records.{count_of, record_of};
@@ -7,7 +9,7 @@ ghost use Rattle.list_cursor.specs.Cursors.{first_cursor, record_at, open_level,
 use list_spec::Record;
 
 // A place in an accepted file: the next chunk's place, number and level, and where each group around it ends, the outermost first.
-#[derive(Drop)]
+#[derive(Clone, Copy)]
 pub struct Cursor {
     pub place: usize,
     pub number: usize,

@@ -1,4 +1,6 @@
 // The data of one chunk by its number: where it lies in the file, and as a part of the file.
+#![tactic(auto)]
+
 ghost use Rattle.std.specs.Prelude.{◌≡◌, ◌+◌, ◌-◌, ◌≤◌, length, take, drop};
 ghost use Rattle.list_spec.specs.declared.Listed.TheVariants.{Chunk as Listed-chunk};
 ghost use Rattle.list_spec.specs.Contents.{no_extent, extent_in, extent_of, Lies, data_of, data_answer, data_pointer};
@@ -7,7 +9,7 @@ use list_by_number::record_by_number;
 use list_spec::{Extent, Listed, Record};
 
 // The data that was asked for: 0 and 0, or the number and place of a refusal; and the data's bytes, none with a refusal.
-#[derive(Drop)]
+#[derive(Clone, Copy)]
 pub struct DataAnswer<'a> {
     pub number: usize,
     pub place: usize,

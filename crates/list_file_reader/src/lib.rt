@@ -1,12 +1,14 @@
 // A reader that holds the lent file and its place in it, and tells the file's structure refusal. Each function over it takes it apart and
 // leaves the work to a function of the slice and the place.
+#![tactic(auto)]
+
 ghost use Rattle.std.specs.Prelude.{◌≡◌};
 ghost use Rattle.list_reader.specs.Reading.{opening_of, first_place, step_at, place_after};
 
 use list_reader::{Place, Refusal, Step, opening_of, place_after, step_at};
 
 // The lent file, the reader's place in it, and the file's structure refusal: 0 and 0 if it is accepted.
-#[derive(Drop)]
+#[derive(Clone, Copy)]
 pub struct Reader<'a> {
     pub file: &'a [u8],
     pub place: Place,

@@ -1,5 +1,7 @@
 // Reading a file record by record, as functions of the file and a place in it. They ask nothing of the place: any place gives a
 // record or the end.
+#![tactic(auto)]
+
 ghost use Rattle.std.specs.Prelude.{◌≡◌};
 ghost use Rattle.list_spec.specs.Records.{count_of};
 ghost use Rattle.list_reader.specs.Reading.{opening_of, step_at, place_after};
@@ -9,28 +11,28 @@ use list_cursor::Cursor;
 use list_spec::{Listed, Record};
 
 // Where a reader stands: the cursor at the next chunk, with the ends of the groups around it, and how many chunks there are to read.
-#[derive(Drop)]
+#[derive(Clone, Copy)]
 pub struct Place {
     pub cursor: Cursor,
     pub chunks: usize,
 }
 
 // What a reader gives: the record at its place, or that there is none left.
-#[derive(Drop)]
+#[derive(Clone, Copy)]
 pub enum Step {
     Chunk(Record),
     End,
 }
 
 // The number and place of a file's structure refusal; 0 and 0 if it is accepted.
-#[derive(Drop)]
+#[derive(Clone, Copy)]
 pub struct Refusal {
     pub number: usize,
     pub place: usize,
 }
 
 // What a reader of a file is made with: the place at the first chunk, and the structure refusal.
-#[derive(Drop)]
+#[derive(Clone, Copy)]
 pub struct Opening {
     pub place: Place,
     pub refusal: Refusal,

@@ -1,4 +1,6 @@
 // The table of a file's records as one lent slice of them, filled in file order.
+#![tactic(auto)]
+
 ghost use Rattle.std.specs.Prelude.{◌≡◌, ◌≤◌, length, take};
 ghost use Rattle.iff_tree.specs.Judge.{read_file, check_of};
 ghost use Rattle.list_capacity.specs.Capacity.{answer_of, records_in, records_for, Ready};

@@ -1,5 +1,7 @@
 // The table of a file's records, each asked for by its number: in time in proportion to the square of the number of chunks.
 // `list_record_table::fill` does the same in one walk.
+#![tactic(auto)]
+
 ghost use Rattle.std.specs.Prelude.{◌≡◌, ◌<◌, length};
 ghost use Rattle.iff_tree.specs.Judge.{read_file, check_of};
 ghost use Rattle.list_spec.specs.declared.Listed.TheVariants.{Chunk as Listed-chunk};

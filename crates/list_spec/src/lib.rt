@@ -1,8 +1,10 @@
 // What a listing tells: the record of a chunk, and where a chunk's data lies. The definitions are in specs/.
+#![tactic(auto)]
+
 use iff_name::{Kind, Name};
 
 // One chunk of a file. A group is told by its type, any other chunk by its name; the size leaves out the pad.
-#[derive(Drop)]
+#[derive(Clone, Copy)]
 pub struct Record {
     pub number: usize,
     pub level: usize,
@@ -13,14 +15,14 @@ pub struct Record {
 }
 
 // The record that was asked for, or the number and place of a refusal.
-#[derive(Drop)]
+#[derive(Clone, Copy)]
 pub enum Listed {
     Chunk(Record),
     Refused { number: usize, place: usize },
 }
 
 // Where a chunk's data lies in the file, with 0 and 0; or the number and place of a refusal, and then from 0 to 0.
-#[derive(Drop)]
+#[derive(Clone, Copy)]
 pub struct Extent {
     pub number: usize,
     pub place: usize,

@@ -1,4 +1,6 @@
 // The lines of a listing, put into a buffer: a label, then a number in decimal digits, a kind or a name.
+#![tactic(auto)]
+
 ghost use Rattle.std.specs.Prelude.{◌≡◌, [], ◌∷◌, ◌++◌, ◌+◌, ◌≤◌, length};
 ghost use Rattle.print_line.specs.Text.{Puts, number_line, kind_line, name_line};
 ghost use Rattle.print_line.specs.Words.{letters, label_of, kind_word};

@@ -1,4 +1,6 @@
 // The lines of a listing that stand together, put into a buffer: those of a refusal, those before the records, those of a record.
+#![tactic(auto)]
+
 ghost use Rattle.std.specs.Prelude.{◌≤◌, length};
 ghost use Rattle.print_line.specs.Text.{Begins, record_text, refusal_text, head_text};
 

@@ -1,4 +1,6 @@
 // The lines of a file, put into a buffer: those of its answer, and those of the record at a cursor.
+#![tactic(auto)]
+
 ghost use Rattle.std.specs.Prelude.{◌≡◌, ◌≤◌, ◌<◌, length, take};
 ghost use Rattle.iff_tree.specs.Judge.{check_of};
 ghost use Rattle.list_spec.specs.Records.{record_of, count_of};

@@ -1,4 +1,6 @@
 // Lists the chunks of the file at standard input.
+#![tactic(auto)]
+
 ghost use Rattle.std.specs.Prelude.{◌≡◌, ◌≤◌, ◌<◌, length};
 ghost use Rattle.iff_tree.specs.Judge.{check_of};
 ghost use Rattle.list_spec.specs.Records.{count_of};

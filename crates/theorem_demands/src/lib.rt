@@ -1,1 +1,2 @@
 // Theorems alone: the demands on the library, and the worked examples.
+#![tactic(auto)]

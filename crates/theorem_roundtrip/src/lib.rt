@@ -1,1 +1,2 @@
 // Theorems alone: what the writer writes reads back as the same picture.
+#![tactic(auto)]

@@ -1,4 +1,6 @@
 // The data of BODY as the writer makes them: plane rows of each scan line, plain or packed. Lengths are told before a byte is written.
+#![tactic(auto)]
+
 ghost use Rattle.std.specs.Prelude.{◌≡◌, ◌+◌, ◌*◌, ◌^◌, ◌≤◌, ◌<◌, length};
 ghost use Rattle.byterun_pack.specs.Pack.{packed};
 ghost use Rattle.byterun_pack.specs.Written.{written_row};

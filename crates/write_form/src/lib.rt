@@ -1,4 +1,6 @@
 // The bytes of one picture as a FORM ILBM, put into a buffer part by part.
+#![tactic(auto)]
+
 ghost use Rattle.std.specs.Prelude.{◌≡◌, ◌+◌, ◌*◌, ◌/◌, ◌%◌, ◌≤◌, ◌<◌, [], length, replicate};
 ghost use Rattle.iff_chunk.specs.Chunks.{put_word};
 ghost use Rattle.write_body.specs.Body.{shape_width, body_bytes};
@@ -152,7 +154,7 @@ fn put_palette(palette: &[u8], out: &mut [u8])
 }
 
 // The lengths of BODY's data and of the whole file.
-#[derive(Drop)]
+#[derive(Clone, Copy)]
 pub struct FileSizes {
     pub body: usize,
     pub file: usize,

@@ -1,4 +1,6 @@
 // The picture writer: the length is settled before a byte is written.
+#![tactic(auto)]
+
 ghost use Rattle.std.specs.Prelude.{◌≡◌, ◌^◌, ◌≤◌, length};
 ghost use Rattle.write_form.specs.File.{picture_file};
 ghost use Rattle.write_picture.specs.Write.{wrong_fields, colour_over, wrong_shape, write_of, out_after};
@@ -8,7 +10,7 @@ use write_body::shape_width;
 use write_form::{file_sizes, put_file};
 
 // The length of the written file, or the number of a refusal.
-#[derive(Drop)]
+#[derive(Clone, Copy)]
 pub enum WriteAnswer {
     Written(usize),
     Refused(usize),

@@ -1,4 +1,6 @@
 // A plane row of a scan line: the bits that the line's colour numbers have in that plane, eight pixels to a byte.
+#![tactic(auto)]
+
 ghost use Rattle.std.specs.Prelude.{◌≡◌, ◌+◌, ◌^◌, ◌≤◌, ◌<◌, length};
 ghost use Rattle.write_plane_row.specs.Planes.{eight_bits, pixel, bits_from, plane_byte, plane_row};
 ghost use Rattle.write_plane_row.specs.Put.{put};
