@@ -1,0 +1,14 @@
+-- The loop's invariant: the bytes before at + k are those before the run and its first k, and dst is as long as it was; the measure is
+-- what is left of count. Once k has reached count, a take of the run's length leaves out what was written behind it.
+use Prim.Native.Nat.{◌+◌, ◌-◌}
+use mathlib.Core.Path.{◌≡◌}
+use mathlib.Core.List.{◌++◌}
+use lib.ListN.{length, take, drop}
+use Rattle.byterun_overshoot.proofs.copy_steps.Given as goal
+
+abbrev pub invariant-loop-k : goal.invariant-loop-k
+invariant-loop-k l =
+    (length l.dst ≡ length l.initial.dst) × (take (l.at + l.k) l.dst ≡ take l.at l.initial.dst ++ take l.k (drop l.from l.src))
+
+abbrev pub decreases-loop-k : goal.decreases-loop-k
+decreases-loop-k l = l.count - l.k
