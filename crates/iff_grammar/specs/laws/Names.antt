@@ -138,12 +138,12 @@ flat_in_prop n G m e = prop_flat [] G (rw e at m)
 -- chunks that may stand in a row read back as they are written
 pub members_regular : (w : Position) (seen : List ℕ) (F : Chunks) → Members w seen F → Regular F
 members_regular w seen none m = tt
-members_regular w seen (leaf n d p F) m = (m.1, well_formed_word n (name_parts n m.0).0, m.3, members_regular _ _ F m.4)
+members_regular w seen (leaf n d p F) m = (m.1, well_formed_word n (name_parts n m.0).0, m.3, members_regular w seen F m.4)
 members_regular w seen (group n t G F) m = (
   m.0,
   well_formed_word n (name_parts n (group_chunk_name n m.0)).0,
   type_word (kind_of n) t m.2,
-  members_regular _ _ G m.4,
-  members_regular _ _ F m.5,
+  members_regular (inside (kind_of n)) [] G m.4,
+  members_regular (after w (kind_of n)) (seen_after (kind_of n) t seen) F m.5,
   flat_in_prop n G m.4,
 )
