@@ -45,7 +45,7 @@ module _
       line_at : (x : Content) → Shown s c h x → colour_line_read (found x) default start (length old) ≡ line
       line_at x k =
           let b = body_of s c h a b i x k in
-          rw (b.is, b.is-data, k.header, mode-is x k, palette-is x k, line_fields x k.sound b.first b.others b.is)
+          rw (b.is, b.is_data, k.header, mode-is x k, palette-is x k, line_fields x k.sound b.first b.others b.is)
 
       pub line_done :
           (r : LineAnswer) (new : List ℕ) → r ≡ line_answer line → new ≡ bytes_after line old → LineDone s c h default start old r new
@@ -60,7 +60,7 @@ module _
       frame_at : (x : Content) → Shown s c h x → colour_frame_read (found x) default (length old) ≡ frame
       frame_at x k =
           let b = body_of s c h a b i x k in
-          rw (b.is, b.is-data, k.header, mode-is x k, palette-is x k, frame_fields x k.sound b.first b.others b.is)
+          rw (b.is, b.is_data, k.header, mode-is x k, palette-is x k, frame_fields x k.sound b.first b.others b.is)
 
       pub frame_done :
           (r : FrameAnswer) (new : List ℕ) → r ≡ frame_answer frame → new ≡ bytes_after frame old → FrameDone s c h default old r new

@@ -11,7 +11,7 @@ use borrow.Author.Tests.{ne_eqb}
 use native.Mathlib.Omega.{arith}
 use Rattle.iff_name.specs.Name.{pick, kind_of}
 use Rattle.iff_name.specs.declared.Kind.{Kind}
-use Rattle.iff_chunk.specs.Chunks.{Chunks, none, leaf, group, Chunk, before, word}
+use Rattle.iff_chunk.specs.Chunks.{bytes, Chunks, none, leaf, group, Chunk, before, word}
 use Rattle.iff_rules.specs.Rules.{is_group}
 use Rattle.iff_tree.specs.Judge.{Found, found, refused, read_file, verdict_of, check_of}
 use Rattle.iff_tree.specs.declared.Verdict.{Verdict}
@@ -21,7 +21,7 @@ use Rattle.iff_walk.specs.Coming.{Coming, Sound}
 use Rattle.iff_walk.specs.laws.Coming.{coming_none, coming_room, coming_later, coming_further, leaf_here, group_here}
 use Rattle.iff_name.specs.Codes.{FORM}
 use Rattle.ilbm_spec.specs.Names.{is_picture}
-use Rattle.ilbm_spec.specs.Contents.{Scope, no_scope, contents_from, contents_of}
+use Rattle.ilbm_spec.specs.Contents.{scope_inside, Scope, no_scope, contents_from, contents_of}
 use Rattle.ilbm_count.specs.declared.Counted.TheVariants.{Pictures, Refused}
 use Rattle.ilbm_count.specs.Count.{count_in, count_of, form_at, Standing}
 
@@ -38,9 +38,9 @@ one_or_none false x rest = omega arith
 contents_forms : (p : ℕ) (scope : Scope) (F : Chunks) → length (contents_from p scope F) ≡ forms F
 unfolding contents_from forms
 contents_forms p scope none = refl
-contents_forms p scope (leaf n d pd F) = contents_forms _ scope F
+contents_forms p scope (leaf n d pd F) = contents_forms (p + (8 + length d + length pd)) scope F
 contents_forms p scope (group n t G F) =
-    one_or_none (is_picture n t) _ _ ∙ rw (length-append, contents_forms _ _ G, contents_forms _ _ F)
+    one_or_none (is_picture n t) _ _ ∙ rw (length-append, contents_forms (p + 12) (scope_inside n p G scope) G, contents_forms (p + (12 + length (bytes G))) scope F)
 
 join_forms : (F K : Chunks) → forms (join F K) ≡ forms F + forms K
 unfolding forms join

@@ -83,7 +83,7 @@ module _ (compression : ℕ) (body : List ℕ) (n rows at : ℕ) where
       first :
           then_read (row_read (row_of compression body q n)) (λ bs p. onward bs (rows_from compression body n (rows - (k + 1)) p))
           ≡ found (w.left, w.end)
-      first = rw (rows_once compression body n rows k q h) at w.to-come
+      first = rw (rows_once compression body n rows k q h) at w.to_come_lem
 
       pub written_full : IsFull (row_of compression body q n)
       written_full = go (row_of compression body q n) first
@@ -126,7 +126,7 @@ module _ (compression : ℕ) (body : List ℕ) (n rows at : ℕ) where
     pub written_end : k ≤ rows → rows ≤ k → rows_from compression body n rows at ≡ found ((rows_in n rows 0 buffer), q)
     written_end a b =
         let none : ◌≡◌ {A = Read (List (List ℕ))} (found ([], q)) (found (w.left, w.end)) =
-        rw (rows_none compression body n rows k q b) at w.to-come in
+        rw (rows_none compression body n rows k q b) at w.to_come_lem in
         let x : w.left ≡ [] = sym (one_value none) in
         let y : w.end ≡ q = sym (one_place none) in
         let z : rows ≡ k = omega arith in

@@ -55,7 +55,7 @@ module _ (s : List ℕ) (c : Contents) (h : BitmapHeader) (a b : ℕ) (i : c.bod
     line_at : (x : Content) → Shown s c h x → line_read (found x) start (length old) ≡ line
     line_at x k =
         let b = body_of x k in
-        rw (b.is, b.is-data, k.header, line_fields x k.sound b.first b.others b.is)
+        rw (b.is, b.is_data, k.header, line_fields x k.sound b.first b.others b.is)
 
     pub line_done : (r : LineAnswer) (new : List ℕ) → r ≡ line_answer line → new ≡ bytes_after line old → LineDone s c h start old r new
     line_done r new e w = record { answer = λ x k. rw (line_at x k) e; row = λ x k. rw (line_at x k) w }
@@ -68,7 +68,7 @@ module _ (s : List ℕ) (c : Contents) (h : BitmapHeader) (a b : ℕ) (i : c.bod
     frame_at : (x : Content) → Shown s c h x → frame_read (found x) (length old) ≡ frame
     frame_at x k =
         let b = body_of x k in
-        rw (b.is, b.is-data, k.header, frame_fields x k.sound b.first b.others b.is)
+        rw (b.is, b.is_data, k.header, frame_fields x k.sound b.first b.others b.is)
 
     pub frame_done : (r : FrameAnswer) (new : List ℕ) → r ≡ frame_answer frame → new ≡ bytes_after frame old → FrameDone s c h old r new
     frame_done r new e w = record { answer = λ x k. rw (frame_at x k) e; frame = λ x k. rw (frame_at x k) w }

@@ -147,7 +147,7 @@ module _ (pixels : Pixels) (compression n w rows : ℕ) (body : List ℕ) (h : �
       first :
           then_read (line_with pixels compression n rows body q) (λ cs p. after cs (lines_with pixels compression n rows body (h - (y + 1)) p))
           ≡ found (d.left, d.end)
-      first = rw (lines_once pixels compression n rows body h y q l) at d.to-come
+      first = rw (lines_once pixels compression n rows body h y q l) at d.to_come_lem
 
       pub drawn_line : IsRead (rows_from compression body n rows q)
       drawn_line = go (rows_from compression body n rows q) first
@@ -194,7 +194,7 @@ module _ (pixels : Pixels) (compression n w rows : ℕ) (body : List ℕ) (h : �
     pub drawn_end : y ≤ h → h ≤ y → length frame ≡ w * h → lines_with pixels compression n rows body h 0 ≡ found (frame, q)
     drawn_end a b l =
         let none : ◌≡◌ {A = Read (List ℕ)} (found ([], q)) (found (d.left, d.end)) =
-        rw (lines_none pixels compression n rows body h y q b) at d.to-come in
+        rw (lines_none pixels compression n rows body h y q b) at d.to_come_lem in
         let x : d.left ≡ [] = sym (one_value none) in
         let z : d.end ≡ q = sym (one_place none) in
         let e : y ≡ h = omega arith in

@@ -29,7 +29,7 @@ module _ (s : List ℕ) (c : Contents) (h : BitmapHeader) (a b : ℕ) (i : c.bod
     line_at : (x : Content) → Shown s c h x → shape_line_read (found x) start (length row) (length shape) ≡ line
     line_at x k =
         let b = body_of s c h a b i x k in
-        rw (b.is, b.is-data, k.header, line_fields x k.sound b.first b.others b.is)
+        rw (b.is, b.is_data, k.header, line_fields x k.sound b.first b.others b.is)
 
     pub line_done :
         (r : LineAnswer) (new told : List ℕ) → r ≡ line_answer line → new ≡ colours_after line row → told ≡ shape_after line shape →
@@ -47,7 +47,7 @@ module _ (s : List ℕ) (c : Contents) (h : BitmapHeader) (a b : ℕ) (i : c.bod
     frame_at : (x : Content) → Shown s c h x → shape_frame_read (found x) (length frame) (length shape) ≡ all
     frame_at x k =
         let b = body_of s c h a b i x k in
-        rw (b.is, b.is-data, k.header, frame_fields x k.sound b.first b.others b.is)
+        rw (b.is, b.is_data, k.header, frame_fields x k.sound b.first b.others b.is)
 
     pub frame_done :
         (r : FrameAnswer) (new told : List ℕ) → r ≡ frame_answer all → new ≡ colours_after all frame → told ≡ shape_after all shape →

@@ -16,7 +16,7 @@ use Rattle.list_spec.specs.Records.{records_of, pick_record, record_in, record_o
 use Rattle.list_cursor.specs.declared.Cursor.{Cursor}
 use Rattle.list_cursor.specs.Cursors.{first_cursor, Located}
 use Rattle.list_capacity.specs.Capacity.{records_in, Ready}
-use Rattle.list_columns.specs.Columns.{column}
+use Rattle.list_columns.specs.Columns.{record_number, level_of, kind_number_of, name_of, record_place, size_of, column}
 
 kind_fits : (k : Kind) → kind_number k < 256
 kind_fits FORM = omega arith
@@ -77,3 +77,12 @@ module _ (f : Record → ℕ) where
 
   pub at_end : (s : List ℕ) (k n : ℕ) (old now : List ℕ) → k ≡ n → now ≡ partly s k old → now ≡ partly s n old
   at_end s k n old now e h = subst (λ (m : ℕ). now ≡ partly s m old) e h
+
+-- the columns, each partly filled
+pub record Columns (s : List ℕ) (n : ℕ) (numbers₀ numbers levels₀ levels kinds₀ kinds names₀ names places₀ places sizes₀ sizes : List ℕ) : Type 0 where
+  pub numbers_filled : numbers ≡ partly record_number s n numbers₀
+  pub levels_filled : levels ≡ partly level_of s n levels₀
+  pub kinds_filled : kinds ≡ partly kind_number_of s n kinds₀
+  pub names_filled : names ≡ partly name_of s n names₀
+  pub places_filled : places ≡ partly record_place s n places₀
+  pub sizes_filled : sizes ≡ partly size_of s n sizes₀

@@ -72,7 +72,7 @@ fn part_of(s: &[u8], x: Extent) -> &[u8]
 // The data of the chunk of a number, as a part of the file; with any refusal the empty part at the file's start.
 pub fn data<'a>(s: &'a [u8], number: usize) -> DataAnswer<'a>
     ensures { (record { number = result.number; place = result.place; bytes = result.bytes.now } ≡ data_answer s.now number) ×
-        (result.bytes.ptr ≡ data_pointer s.now number s.entry.ref_ptr) }
+        (result.bytes.ref_ptr ≡ data_pointer s.now number s.entry.ref_ptr) }
 {
     let x = data_extent(s, number);
     let bytes = part_of(s, x);

@@ -84,7 +84,7 @@ module _ (f g old : List ℕ) (move : ℕ → ℕ) (n : ℕ) (same : SameAnswers
   same_by_table : SameByTable f g old move n
   same_by_table =
       record {
-        count = same.table-answers (length old) ∙ told;
+        count = same.table_answers (length old) ∙ told;
         views = λ i h. b.views i h ∙ same.views i ∙ ap (moved_view move) (sym (a.views i h));
         properties = λ i h. b.properties i h ∙ same.pictures i ∙ ap (moved_answer move) (sym (a.properties i h));
         palettes = λ i h default. b.palettes i h default ∙ same.palettes i default ∙ sym (a.palettes i h default);
@@ -97,20 +97,20 @@ module _ (f g old : List ℕ) (move : ℕ → ℕ) (n : ℕ) (same : SameAnswers
             ap told (b.frames i h (length frame)) ∙ same.frames i frame ∙ sym (ap told (a.frames i h (length frame)));
         shape_lines = λ i h start row shape.
             let told : Read Shaped → LineAnswer × List ℕ × List ℕ = λ x. shape_line_told x row shape in
-            ap told (b.shape-lines i h start (length row) (length shape)) ∙ same.shape-lines i start row shape ∙
-            sym (ap told (a.shape-lines i h start (length row) (length shape)));
+            ap told (b.shape_lines i h start (length row) (length shape)) ∙ same.shape_lines i start row shape ∙
+            sym (ap told (a.shape_lines i h start (length row) (length shape)));
         shape_frames = λ i h frame shape.
             let told : Read Shaped → FrameAnswer × List ℕ × List ℕ = λ x. shape_frame_told x frame shape in
-            ap told (b.shape-frames i h (length frame) (length shape)) ∙ same.shape-frames i frame shape ∙
-            sym (ap told (a.shape-frames i h (length frame) (length shape)));
+            ap told (b.shape_frames i h (length frame) (length shape)) ∙ same.shape_frames i frame shape ∙
+            sym (ap told (a.shape_frames i h (length frame) (length shape)));
         colour_lines = λ i h default start row.
             let told : Read (List ℕ) → LineAnswer × List ℕ = λ x. line_told x row in
-            ap told (b.colour-lines i h default start (length row)) ∙ same.colour-lines i default start row ∙
-            sym (ap told (a.colour-lines i h default start (length row)));
+            ap told (b.colour_lines i h default start (length row)) ∙ same.colour_lines i default start row ∙
+            sym (ap told (a.colour_lines i h default start (length row)));
         colour_frames = λ i h default frame.
             let told : Read (List ℕ) → FrameAnswer × List ℕ = λ x. frame_told x frame in
-            ap told (b.colour-frames i h default (length frame)) ∙ same.colour-frames i default frame ∙
-            sym (ap told (a.colour-frames i h default (length frame)));
+            ap told (b.colour_frames i h default (length frame)) ∙ same.colour_frames i default frame ∙
+            sym (ap told (a.colour_frames i h default (length frame)));
         triples = λ i h default. b.triples i h default ∙ same.triples i default ∙ sym (a.triples i h default);
       }
 
@@ -124,7 +124,7 @@ unchanged f b c e adds may old n told =
     let same = (demand3 f b c e adds may).answers in
     same_by_table f (file_after adds c f) old (moved_by adds c) n same told
     (tree_by_table f c was.0 was.1 old n told)
-    (tree_by_table (file_after adds c f) (tree_after adds c) now.0 now.1 old n (same.table-answers (length old) ∙ told))
+    (tree_by_table (file_after adds c f) (tree_after adds c) now.0 now.1 old n (same.table_answers (length old) ∙ told))
 
 -- A written file by its table: one row, and by it the picture, its palette with the triples, its frame, its shape and its colours.
 pub record ReadsBackByTable (s old : List ℕ) (b : BitmapHeader) (palette frame shape : List ℕ) : Type 0 where
@@ -149,8 +149,8 @@ back_by_table s old b palette frame shape room r =
       picture = t.properties 0 (omega arith) ∙ r.picture;
       palette_back = t.palettes 0 (omega arith) [] ∙ r.palette_back;
       frame_back = t.frames 0 (omega arith) (b.w * b.h) ∙ r.frame_back;
-      shape_back = t.shape-frames 0 (omega arith) (b.w * b.h) (b.w * b.h) ∙ r.shape_back;
-      colours_back = t.colour-frames 0 (omega arith) [] (3 * (b.w * b.h)) ∙ r.colours_back;
+      shape_back = t.shape_frames 0 (omega arith) (b.w * b.h) (b.w * b.h) ∙ r.shape_back;
+      colours_back = t.colour_frames 0 (omega arith) [] (3 * (b.w * b.h)) ∙ r.colours_back;
       triples_back = t.triples 0 (omega arith) [] ∙ r.triples_back;
     }
 

@@ -123,7 +123,7 @@ module _
   colours_back_lem : colour_frame_of file 0 [] (3 * (b.w * b.h)) ≡ colours_for palette frame
   colours_back_lem =
       let each = plain_colour (content_for b palette frame shape) [] in
-      colours_of_numbers.plain-frame file 0 (content_for b palette frame shape) view_back not_held [] (b.w * b.h) ∙
+      colours_of_numbers.plain_frame file 0 (content_for b palette frame shape) view_back not_held [] (b.w * b.h) ∙
       ap (read_as (each_colour each)) frame_back_lem ∙ rw through_palette
 
   triples_back_lem : triples_of file 0 [] ≡ triples_for palette

@@ -7,8 +7,8 @@ returns c =
     bitmap_header _ _ _ _ _ _ _ _
     c.word_at.ensures
     c.word_at-2.ensures
-    (same_bits _ _ (record { sfits = c.signed_at.type-inv }) c.signed_at.ensures)
-    (same_bits _ _ (record { sfits = c.signed_at-2.type-inv }) c.signed_at-2.ensures)
+    (same_bits _ _ (record { sfits = c.signed_at.type_inv }) c.signed_at.ensures)
+    (same_bits _ _ (record { sfits = c.signed_at-2.type_inv }) c.signed_at-2.ensures)
     c.word_at-3.ensures
-    (same_bits _ _ (record { sfits = c.signed_at-3.type-inv }) c.signed_at-3.ensures)
-    (same_bits _ _ (record { sfits = c.signed_at-4.type-inv }) c.signed_at-4.ensures)
+    (same_bits _ _ (record { sfits = c.signed_at-3.type_inv }) c.signed_at-3.ensures)
+    (same_bits _ _ (record { sfits = c.signed_at-4.type_inv }) c.signed_at-4.ensures)

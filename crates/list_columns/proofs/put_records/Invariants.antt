@@ -1,6 +1,7 @@
 -- `put_records` meets its contract: at each turn the cursor is located, if there is a record to put, and each column has the fields of the records before it.
 use Prim.Native.Nat.{◌-◌, ◌≤◌, ◌<◌}
 use Rattle.list_cursor.specs.Cursors.{Located}
+use Rattle.list_columns.proofs.ColumnLaws.{Columns}
 use Rattle.list_columns.proofs.put_records.Given as goal
 
 abbrev pub invariant-loop-cur : goal.invariant-loop-cur

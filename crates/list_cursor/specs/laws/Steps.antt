@@ -75,7 +75,7 @@ module _ {s R : List ℕ} {all : List Record} {p n l : ℕ} {ends : List ℕ} (s
           level = h.level;
           rows = (h.rows.0.3, h.rows.1, h.rows.2);
           here = leaf_rest s p c d pd F _ h.rows.0 short leaf_here ∙ sym (append_assoc (bytes F) (row_bytes Fs) R);
-          open_ends = ends_on ends p (next_at s p) (leaf c d pd F) F Fs to h.open-ends;
+          open_ends = ends_on ends p (next_at s p) (leaf c d pd F) F Fs to h.open_ends;
           left = drop_one all n _ _ h.left ∙ ap₂ (λ (x y : List Record). x ++ y) row later;
           low = omega (arith, h.low);
           slots = h.slots;
@@ -122,7 +122,7 @@ module _ {s R : List ℕ} {all : List Record} {p n l : ℕ} {ends : List ℕ} (s
         let q : ℕ = p + 12 + length (bytes G) in
         let to : p + length (bytes (group c t G F)) ≡ q + length (bytes F) = omega arith in
         let stored : get_or (set ends k v) (length Fs) 0 ≡ v = ap (λ (j : ℕ). get_or (set ends k v) j 0) (sym at) ∙ get_or-set_same ends k v 0 deep in
-        (stored ∙ end, ends_set ends k v q F Fs (omega arith) (ends_on ends p q (group c t G F) F Fs to h.open-ends))
+        (stored ∙ end, ends_set ends k v q F Fs (omega arith) (ends_on ends p q (group c t G F) F Fs to h.open_ends))
 
     -- its members are listed before what is behind it
     records-in : drop (n + 1) all ≡ pending (n + 1) (p + 12) (G ∷ F ∷ Fs)
@@ -190,7 +190,7 @@ module _ {s R : List ℕ} {all : List Record} {p n : ℕ} {ends : List ℕ} wher
         level = refl;
         rows = h.rows.2;
         here = h.here;
-        open_ends = subst (λ (q : ℕ). Ends ends q F Fs) z h.open-ends.1;
+        open_ends = subst (λ (q : ℕ). Ends ends q F Fs) z h.open_ends.1;
         left = h.left ∙ ap₂ (λ (k q : ℕ). pending k q (F ∷ Fs)) y z;
         low = h.low;
         slots = h.slots;
@@ -202,14 +202,14 @@ module _ {s R : List ℕ} {all : List Record} {p n : ℕ} {ends : List ℕ} wher
   settle [] (leaf c d pd F) l h = stay h tt (rw h.level (open_one ends p))
   settle [] (group c t G F) l h = stay h tt (rw h.level (open_one ends p))
   settle (H ∷ Fs) none l h =
-      let e : get_or ends (length Fs) 0 ≡ p = omega (arith, h.open-ends.0) in
+      let e : get_or ends (length Fs) 0 ≡ p = omega (arith, h.open_ends.0) in
       let lower : open_level ends p l ≡ open_level ends p (length Fs + 1) = ap (λ (k : ℕ). open_level ends p k) h.level ∙ open_shut ends p (length Fs) e in
       rw lower (settle Fs H (length Fs + 1) (shut h))
   settle (H ∷ Fs) (leaf c d pd F) l h =
       let len = length_leaf c d pd F in
-      let e : get_or ends (length Fs) 0 ≡ p + length (bytes (leaf c d pd F)) = h.open-ends.0 in
+      let e : get_or ends (length Fs) 0 ≡ p + length (bytes (leaf c d pd F)) = h.open_ends.0 in
       stay h tt (rw h.level (open_kept ends p (length Fs) (λ z. omega arith)))
   settle (H ∷ Fs) (group c t G F) l h =
       let len = length_group c t G F in
-      let e : get_or ends (length Fs) 0 ≡ p + length (bytes (group c t G F)) = h.open-ends.0 in
+      let e : get_or ends (length Fs) 0 ≡ p + length (bytes (group c t G F)) = h.open_ends.0 in
       stay h tt (rw h.level (open_kept ends p (length Fs) (λ z. omega arith)))

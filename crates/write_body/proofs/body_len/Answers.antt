@@ -12,7 +12,7 @@ loop-y-preserved c =
     let w = c.shaped_line_len-total.ensures in
     let l = c.loop-y-test.true in
     let step = reached_step _ _ _ _ _ _ _ _ _ i.0 l in
-    (reached_more _ _ _ _ _ _ _ _ _ i.0 l, omega (arith, i.1, w.1), counting_more _ _ _ i.2 _ _ step _ w.0)
+    (reached_more _ _ _ _ _ _ _ _ _ i.0 l, omega (arith, i.1, w.short), counting_more _ _ _ i.2 _ _ step _ w.is)
 
 pub returns-clause-is : goal.returns-clause-is
 returns-clause-is c =

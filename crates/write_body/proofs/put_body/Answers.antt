@@ -18,7 +18,7 @@ loop-y-preserved c =
     let w = c.put_shaped_line-q.ensures in
     let l = c.loop-y-test.true in
     let step = reached_step _ _ _ _ _ _ _ _ _ i.0 l in
-    (reached_more _ _ _ _ _ _ _ _ _ i.0 l, putting_more _ _ _ _ _ _ i.1 p.3 _ _ step _ _ w.0 w.1)
+    (reached_more _ _ _ _ _ _ _ _ _ i.0 l, putting_more _ _ _ _ _ _ i.1 p.3 _ _ step _ _ w.ends w.bytes)
 
 pub returns-clause-ends : goal.returns-clause-ends
 returns-clause-ends c =

@@ -14,7 +14,7 @@ pub loop-k-preserved : goal.loop-k-preserved
 loop-k-preserved c =
     let p = c.requires in
     let w = c.put_row-q.ensures in
-    putting_more _ _ _ _ _ _ c.loop-k.invariant p.2 _ _ (rows_step _ _ _ _ _ c.loop-k-test.true) _ _ (omega (arith, w.0)) w.1
+    putting_more _ _ _ _ _ _ c.loop-k.invariant p.2 _ _ (rows_step _ _ _ _ _ c.loop-k-test.true) _ _ (omega (arith, w.is)) w.bytes
 
 pub returns-clause-ends : goal.returns-clause-ends
 returns-clause-ends c = (putting_all _ _ _ _ _ _ c.loop-k.invariant c.requires.2 (rows_end _ _ _ _ _ c.loop-k-test.false)).0

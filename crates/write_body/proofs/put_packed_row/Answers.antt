@@ -4,7 +4,7 @@ use borrow.Author.Rules.{rules}
 use Rattle.write_body.proofs.put_packed_row.Goals as goal
 
 pub pack_at-requires : goal.pack_at-requires
-pack_at-requires c = search (made_room, c.?plane-row.ensures, c.??.before.before.before.before.before.before.before.before.before.requires, rules)
+pack_at-requires c = search (made_room, c.plane_row.ensures, c.requires, rules)
 
 pub returns-clause-is : goal.returns-clause-is
 returns-clause-is c = search (made_laws, rules)

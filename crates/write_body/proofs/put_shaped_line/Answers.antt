@@ -8,4 +8,4 @@ returns-clause-bytes c =
     let v = c.put_line.ensures in
     let d = c.plane_row_len-n.ensures.is in
     let e = c.mask_rows-masks.ensures.is in
-    (line_put c.args.b _ _ _ _ d e _ _ c.requires.1 _ _ w.0 w.1 _ _ v.0 v.1).1
+    (line_put c.args.b _ _ _ _ d e _ _ c.requires.1 _ _ w.ends w.bytes _ _ v.ends v.bytes).1

@@ -1,0 +1,29 @@
+-- `colour_by_palette` meets its contract. The loop's invariant: the front has the first x pixels; the measure is what is left of the line.
+-- The last pixel has no fourth byte.
+use Prim.Native.Nat.{◌-◌}
+use mathlib.Core.List.{[], ◌∷◌}
+use borrow.Author.Rules.{rules}
+use Rattle.ilbm_colour_pixels.proofs.Front.{front_next, front_end}
+use Rattle.ilbm_colour_pixels.proofs.colour_by_palette.Goals as goal
+
+pub loop-x-preserved : goal.loop-x-preserved
+loop-x-preserved c =
+    (
+      search rules,
+      search rules,
+      (
+        _,
+        front_next _ _ _ _ _ _ c.loop-x.invariant.1 c.loop-x.invariant.2.1 _ _ (_ ∷ []) c.looked_up-v.ensures (search rules) (search rules)
+            c.put_four.ensures,
+      ),
+    )
+
+pub returns-then-x-w : goal.returns-then-x-w
+returns-then-x-w c =
+    let last = front_next _ _ _ _ _ _ c.loop-x.invariant.1 c.loop-x.invariant.2.1 _ _ [] c.looked_up-v-then-x-w.ensures (search rules) (search rules)
+    c.put_last.ensures in
+    front_end _ _ _ _ _ _ (search rules) last (search rules)
+
+pub returns-else-x-w : goal.returns-else-x-w
+returns-else-x-w c =
+    front_end _ _ _ _ _ _ c.loop-x.invariant.1 c.loop-x.invariant.2.1 c.if-x-w.false
