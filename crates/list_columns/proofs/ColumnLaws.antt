@@ -1,33 +1,20 @@
--- A column is filled record by record: with the field of the next record at its place it is the column of one record more. One law for every field.
+-- A column is filled record by record: with the field of the next record at its place it is the column of one record more. One law for
+-- every field.
 use Prim.Native.Nat.{ℕ, zero, suc, ◌+◌, ◌≤◌, ◌<◌}
 use mathlib.Core.Path.{◌≡◌, refl, sym, ap, subst, ◌∙◌}
 use mathlib.Core.List.{List, [], ◌∷◌}
 use native.Mathlib.Omega.{arith}
 use native.Mathlib.Numerals.{add-one}
-use lib.ListN.{length, take, set}
+use lib.ListN.{take, set}
 use Rattle.iff_chunk.specs.Chunks.{Chunk}
 use Rattle.iff_tree.specs.Judge.{Found, found, refused, read_file}
-use Rattle.iff_name.specs.declared.Kind.{Kind}
-use Rattle.iff_name.specs.declared.Kind.TheVariants.{FORM, LIST, CAT, PROP, FILLER, LOCAL}
-use Rattle.iff_name.specs.Name.{kind_number}
 use Rattle.list_spec.specs.declared.Record.{Record}
 use Rattle.list_spec.specs.declared.Listed.TheVariants.{Chunk as Listed-chunk}
-use Rattle.list_spec.specs.Records.{records_of, pick_record, record_in, record_of, count_of}
+use Rattle.list_spec.specs.Records.{records_of, pick_record, record_in, record_of}
 use Rattle.list_cursor.specs.declared.Cursor.{Cursor}
 use Rattle.list_cursor.specs.Cursors.{first_cursor, Located}
 use Rattle.list_capacity.specs.Capacity.{records_in, Ready}
 use Rattle.list_columns.specs.Columns.{record_number, level_of, kind_number_of, name_of, record_place, size_of, column}
-
-kind_fits : (k : Kind) → kind_number k < 256
-kind_fits FORM = omega arith
-kind_fits LIST = omega arith
-kind_fits CAT = omega arith
-kind_fits PROP = omega arith
-kind_fits LOCAL = omega arith
-kind_fits FILLER = omega arith
-
-pub kind_byte : (k : Kind) (n : ℕ) → n ≡ kind_number k → n < 256
-kind_byte k n e = subst (λ (m : ℕ). m < 256) (sym e) (kind_fits k)
 
 pub start_located : (s : List ℕ) (n : ℕ) (r : Cursor) → Ready s n → r ≡ first_cursor → 0 < n → Located s r
 start_located s n r ready e h = rw e (ready h).0
@@ -35,20 +22,10 @@ start_located s n r ready e h = rw e (ready h).0
 pub start_below : (r : Cursor) (n : ℕ) → r ≡ first_cursor → r.number ≤ n
 start_below r n e = rw e (omega arith)
 
--- what `record_at` and `advance` ask
-pub turn : (s : List ℕ) (n : ℕ) (c : Cursor) → Ready s n → (0 < n → Located s c) → c.number < n → (Located s c) × (c.number < count_of s)
-turn s n c ready at h = let some : 0 < n = omega (arith, h) in (at some, omega (arith, h, (ready some).1))
-
 module _ (f : Record → ℕ) where
   -- The first n records are put.
   abbrev pub partly : List ℕ → ℕ → List ℕ → List ℕ
   partly s n old = column f (take n (records_in (read_file s))) old
-
-  column_length : (rs : List Record) (old : List ℕ) → length (column f rs old) ≡ length old
-  unfolding column
-  column_length [] old = refl
-  column_length (r ∷ rs) [] = refl
-  column_length (r ∷ rs) (x ∷ old) = ap suc (column_length rs old)
 
   one_more : (all : List Record) (n : ℕ) (r : Record) (old : List ℕ) → Listed-chunk r ≡ pick_record all n → set (column f (take n all) old) n (f r) ≡ column f (take (suc n) all) old
   unfolding column pick_record
@@ -71,9 +48,6 @@ module _ (f : Record → ℕ) where
       go : (x : Found Chunk) → Listed-chunk r ≡ record_in x n → set (column f (take n (records_in x)) old) n (f r) ≡ column f (take (suc n) (records_in x)) old
       go (found c) y = one_more (records_of c) n r old y
       go (refused k p) y = let z : ◌≡◌ {A = ℕ} 0 1 = cc in absurd (omega arith)
-
-  pub same_room : (s : List ℕ) (n : ℕ) (old now : List ℕ) → now ≡ partly s n old → length now ≡ length old
-  same_room s n old now e = ap length e ∙ column_length _ old
 
   pub at_end : (s : List ℕ) (k n : ℕ) (old now : List ℕ) → k ≡ n → now ≡ partly s k old → now ≡ partly s n old
   at_end s k n old now e h = subst (λ (m : ℕ). now ≡ partly s m old) e h

@@ -28,8 +28,5 @@ no_refusal s i k p h e = go (read_file s) h e
 -- by what the call by number gives
 
 module _ (s : List ℕ) (i : ℕ) (l : Listed) (d : l ≡ record_of s i) where
-  pub below_found : (r : Record) → l ≡ Listed-chunk r → Listed-chunk r ≡ record_of s i
-  below_found r e = sym e ∙ d
-
   pub below_never : i < count_of s → (k p : ℕ) → l ≡ Refused k p → (r : Record) → Listed-chunk r ≡ record_of s i
   below_never h k p e r = absurd (no_refusal s i k p h (sym d ∙ e))

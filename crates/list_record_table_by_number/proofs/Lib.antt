@@ -1,3 +1,1 @@
 pub mod BelowLaws
-pub mod Asking
-pub mod Filling

@@ -7,16 +7,15 @@ use Rattle.ilbm_colour_pixels.proofs.Front.{front_next, front_end}
 use Rattle.ilbm_colour_pixels.proofs.colour_by_palette.Goals as goal
 
 pub loop-x-preserved : goal.loop-x-preserved
-loop-x-preserved c =
-    (
-      search rules,
-      search rules,
-      (
-        _,
-        front_next _ _ _ _ _ _ c.loop-x.invariant.1 c.loop-x.invariant.2.1 _ _ (_ ∷ []) c.looked_up-v.ensures (search rules) (search rules)
-            c.put_four.ensures,
-      ),
-    )
+loop-x-preserved c = (
+  search rules,
+  search rules,
+  (
+    _,
+    front_next _ _ _ _ _ _ c.loop-x.invariant.1 c.loop-x.invariant.2.1 _ _ (_ ∷ []) c.looked_up-v.ensures (search rules) (search rules)
+        c.put_four.ensures,
+  ),
+)
 
 pub returns-then-x-w : goal.returns-then-x-w
 returns-then-x-w c =

@@ -1,9 +1,10 @@
--- `put_records` meets its contract: at each turn the cursor is located, if there is a record to put, and each column has the fields of the records before it.
+-- `put_records` meets its contract: at each turn the cursor is located, if there is a record to put, and each column has
+-- the fields of the records before it.
 use Prim.Native.Nat.{◌≤◌, ◌<◌}
 use mathlib.Core.Path.{◌≡◌}
 use native.Mathlib.Omega.{arith}
 use Rattle.list_columns.specs.Columns.{record_number, level_of, kind_number_of, name_of, record_place, size_of}
-use Rattle.list_columns.proofs.ColumnLaws.{start_located, start_below, partly, starts, goes_on, at_end}
+use Rattle.list_columns.proofs.ColumnLaws.{start_located, start_below, starts, goes_on, at_end}
 use Rattle.list_columns.proofs.put_records.Goals as goal
 
 pub loop-cur-init : goal.loop-cur-init

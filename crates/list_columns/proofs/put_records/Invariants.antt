@@ -1,4 +1,5 @@
--- `put_records` meets its contract: at each turn the cursor is located, if there is a record to put, and each column has the fields of the records before it.
+-- `put_records` meets its contract: at each turn the cursor is located, if there is a record to put, and each column has
+-- the fields of the records before it.
 use Prim.Native.Nat.{◌-◌, ◌≤◌, ◌<◌}
 use Rattle.list_cursor.specs.Cursors.{Located}
 use Rattle.list_columns.proofs.ColumnLaws.{Columns}

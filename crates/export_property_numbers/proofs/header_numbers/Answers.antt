@@ -1,0 +1,11 @@
+-- By the cases of the answer: the fields are copied, or 0 beside a refusal.
+use Rattle.export_property_numbers.specs.Properties.{header_numbers}
+use Rattle.export_property_numbers.proofs.header_numbers.Goals as goal
+
+pub returns-in-Shown : goal.returns-in-Shown
+unfolding header_numbers
+returns-in-Shown c = rw (c.in-Shown.is, c.origin_number.ensures, c.shared_place.ensures)
+
+pub returns-in-Refused : goal.returns-in-Refused
+unfolding header_numbers
+returns-in-Refused c = rw c.in-Refused.is
