@@ -1,14 +1,10 @@
 -- A walk over an accepted file starts at its outermost chunk.
-use Prim.Native.Nat.{ℕ, ◌≤◌}
-use mathlib.Core.Path.{◌≡◌, sym, ◌∙◌}
-use mathlib.Core.List.{List}
-use native.Mathlib.Omega.{arith}
+use Rattle.std.proofs.Common.{◌≡◌, ℕ, List, sym, ◌∙◌}
 use Rattle.iff_tree.specs.declared.Verdict.{Verdict}
 use Rattle.iff_tree.specs.declared.Verdict.TheVariants.{Accepted}
 use Rattle.iff_tree.specs.Judge.{check_of}
 use Rattle.iff_grammar.specs.Words.{Bytes}
 use Rattle.list_spec.specs.Records.{count_of}
-use Rattle.list_cursor.specs.declared.Cursor.{Cursor}
 use Rattle.list_cursor.specs.Cursors.{first_cursor, Located}
 use Rattle.list_cursor.specs.laws.Walk.{located_first}
 
@@ -18,11 +14,3 @@ module _ (s : List ℕ) (v : Verdict) (n a t : ℕ) (d : v ≡ check_of s) (e : 
 
   pub accepted_count : n ≡ count_of s
   accepted_count = (located_first s b n a t (sym e ∙ d)).1
-
-pub start_located : (s : List ℕ) (r : Cursor) → Located s first_cursor → r ≡ first_cursor → Located s r
-start_located s r h e = rw e h
-
-pub start_below : (r : Cursor) (n : ℕ) → r ≡ first_cursor → r.number ≤ n
-start_below r n e = rw e (omega arith)
-
-pub ruleset walk_laws = (start_located, start_below)
