@@ -1,0 +1,14 @@
+-- `read_full` is safe and ends: what is read lies in the buffer, and each turn reads more.
+use Rattle.std.proofs.Common.{length, take, ◌-◌, ◌≡◌, ◌≤◌}
+use Rattle.std.specs.Io.KnownBytes.{Consumes}
+use Rattle.print_program.proofs.read_full.Given as goal
+
+abbrev pub invariant-loop-done : goal.invariant-loop-done
+invariant-loop-done g l = record {
+  upper_bound : l.done ≤ length l.buffer;
+  room : length l.buffer ≡ length l.fn.buffer;
+  bytes : Consumes (g.R.Read.remaining l.fn.from) (g.R.Read.remaining l.from) (take l.done l.buffer);
+}
+
+abbrev pub decreases-loop-done : goal.decreases-loop-done
+decreases-loop-done g l = length l.fn.buffer - l.done
