@@ -1,5 +1,4 @@
 -- `scan_frame` meets its contract: a frame whose rows were all judged sound may be written, and a refusal leaves the frame.
-use borrow.Author.Rules.{rules}
 use Rattle.ilbm_spec.specs.Rows.{colour_numbers}
 use Rattle.ilbm_scan_frame.proofs.Frame.{frame_judged, frame_read_lem, frame_refusal}
 use Rattle.ilbm_scan_frame.proofs.scan_frame.Goals as goal
