@@ -72,7 +72,7 @@ fn part_or<'a>(s: &'a [u8], c: Colours, default: &'a [u8]) -> &'a [u8]
 // The palette of picture i: the CMAP that counts, as a part of the file, or the default where none counts; empty after a refusal.
 pub fn palette<'a>(s: &'a [u8], i: usize, default: &'a [u8]) -> PaletteAnswer<'a>
     ensures { (record { number = result.number; place = result.place; colours = result.colours.now } ≡ palette_answer s.now i default.now) ×
-        (result.colours.ptr ≡ pointer (palette_source s.now i) s.entry.ref_ptr default.entry.ref_ptr) }
+        (result.colours.ref_ptr ≡ pointer (palette_source s.now i) s.entry.ref_ptr default.entry.ref_ptr) }
 {
     let c = colours_of(s, i);
     let colours = part_or(s, c, default);

@@ -1,4 +1,5 @@
--- The pictures are those that are counted. The lines of the answer are those of the check's verdict, and the lines at a cursor those of the record of its number.
+-- The pictures are those that are counted. The lines of the answer are those of the check's verdict, and the lines at a
+-- cursor those of the record of its number.
 use Prim.Native.Nat.{ℕ}
 use mathlib.Core.Path.{◌≡◌, sym, ap, ◌∙◌}
 use mathlib.Core.List.{List}

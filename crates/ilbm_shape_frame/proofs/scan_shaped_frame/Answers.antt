@@ -1,5 +1,4 @@
 -- `scan_shaped_frame` meets its contract: a frame whose rows were all judged sound may be written, and a refusal leaves both frames.
-use borrow.Author.Rules.{rules}
 use Rattle.ilbm_spec.specs.Rows.{colour_numbers}
 use Rattle.ilbm_scan_frame.proofs.Frame.{frame_answered}
 use Rattle.ilbm_shape_line.proofs.Together.{both_read}
@@ -13,7 +12,7 @@ write_shaped_frame-requires-clause-read c =
     let rows = c.row_count-rows.ensures.0 in
     let judged = c.judge_rows-judged.ensures in
     let sound = frame_sound s.compression s.w s.planes s.masking s.transparent s.body.now s.h _ _ n rows in
-    (search rules, (search rules, sound _ judged _ c.in-Next.is))
+    sound _ judged _ c.in-Next.is
 
 pub returns-in-Next-clause-is : goal.returns-in-Next-clause-is
 returns-in-Next-clause-is c =
@@ -46,7 +45,7 @@ returns-in-Refused-clause-colours c =
     let told = frame_answered (colour_numbers s.w s.planes) _ _ _ _ s.h _ n _ judged in
     let d = frame_refused s.compression s.w s.planes s.masking s.transparent s.body.now s.h _ (rw rows at told)
     s.frame.now s.shape.now _ _ c.in-Refused.is in
-    (d.1, d.2)
+    d.1
 
 pub returns-in-Refused-clause-shape : goal.returns-in-Refused-clause-shape
 returns-in-Refused-clause-shape c =
@@ -57,4 +56,4 @@ returns-in-Refused-clause-shape c =
     let told = frame_answered (colour_numbers s.w s.planes) _ _ _ _ s.h _ n _ judged in
     let d = frame_refused s.compression s.w s.planes s.masking s.transparent s.body.now s.h _ (rw rows at told)
     s.frame.now s.shape.now _ _ c.in-Refused.is in
-    (d.0, (d.1, d.2))
+    d.2

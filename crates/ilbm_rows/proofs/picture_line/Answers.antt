@@ -1,0 +1,7 @@
+-- Without a BODY it is 25; with one, `line_in_body` has the answer, for the header that counts.
+use borrow.Author.Rules.{rules}
+use Rattle.ilbm_rows.proofs.Body.{line_done}
+use Rattle.ilbm_rows.proofs.picture_line.Goals as goal
+
+pub returns-in-Between : goal.returns-in-Between
+returns-in-Between c = search (line_done, rules)
