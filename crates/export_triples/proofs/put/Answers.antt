@@ -16,4 +16,4 @@ pub returns-clause-bytes : goal.returns-clause-bytes
 returns-clause-bytes c =
     let s = c.args in
     let put = c.loop-i.invariant in
-    (room s.t1 s.lent.now c.if-lent-lt192.false _ (all_put _ _ _ _ put.2 (search rules) put.0 c.loop-i-test.false)).1
+    (room s.all s.lent.now c.if-lent-lt192.false _ (all_put _ _ _ _ put.2 (search rules) put.0 c.loop-i-test.false)).1
