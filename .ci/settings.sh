@@ -1,4 +1,25 @@
-# For the scripts that prove crates, from the repository's top: where a check writes.
+# For the scripts that prove crates, from the repository's top.
+
+# with_below NAME..: the names of these crates and of those below them.
+with_below() {
+    WANTED="$*" awk '
+        function visit(n,    d, k, m) {
+            if (!(n in uses) || n in seen) return
+            seen[n] = 1
+            m = split(uses[n], d, " ")
+            for (k = 1; k <= m; k++) visit(d[k])
+            print n
+        }
+        { sub(/#.*/, "") }
+        /:/ { split($0, words, /[ :]/); uses[words[1]] = substr($0, index($0, ":") + 1) }
+        END {
+            m = split(ENVIRON["WANTED"], wanted, " ")
+            for (k = 1; k <= m; k++) {
+                if (!(wanted[k] in uses)) { print wanted[k] " is not listed in crates.txt" > "/dev/stderr"; exit 2 }
+                visit(wanted[k])
+            }
+        }' crates.txt
+}
 
 # room_in FOLDER: there is room for the files of some checks, up to 200 MB each, and programs may be run from there.
 room_in() {
