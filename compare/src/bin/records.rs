@@ -32,11 +32,10 @@ fn fill(file: &[u8], table: &mut [Record]) {
     unsafe { records_fill(&mut answer, file.as_ptr(), file.len(), table.as_mut_ptr(), table.len()) }
 }
 
-/// The number of a kind, from the compiler's, which begins with 0 and has filler before local chunks.
+/// The number of a kind, from the compiler's, which begins with 0; of a record that nothing was put into, its own.
 fn kind_number(kind: u8) -> u8 {
     match kind {
-        0..=3 => kind + 1,
-        4 => 6,
+        0..=5 => kind + 1,
         other => other,
     }
 }
