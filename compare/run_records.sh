@@ -1,51 +1,26 @@
 #!/bin/sh
 # The table of record structs in proportion to the file, with a stack of 256 KiB. Not in the gate.
 # A record holds an enum, so no exported call can take such a table. The code that the compiler makes of `list_record_table::fill` is taken
-# from a small program that is tried and not proved, and linked under a name of its own; nothing else of it is changed.
+# from a small program that calls it, and linked under a name of its own; nothing else of it is changed.
 set -eu
 cd "$(dirname "$0")"
 root=$(cd .. && pwd)
-work=$root/target/records
 kit=$(dirname "$(dirname "$(readlink -f "$(command -v rt)")")")
-machine=$(uname -m)
-own=$kit/on/$machine/toolchain
 CARGO_TARGET_DIR=${CARGO_TARGET_DIR:-$root/target/cargo}
 export CARGO_TARGET_DIR
-rm -rf "$work"
-
-# linked FOLDER COPY LEFT_OUT: a folder of links to what is in another, but one entry.
-linked() {
-    mkdir -p "$2"
-    for entry in "$1"/*; do
-        [ "$(basename "$entry")" = "$3" ] || ln -s "$entry" "$2"
-    done
-}
-
-# The kit, with a compiler that keeps what it is given.
-linked "$kit" "$work/kit" on
-linked "$kit/on/$machine" "$work/kit/on/$machine" toolchain
-linked "$own" "$work/kit/on/$machine/toolchain" bin
-linked "$own/bin" "$work/kit/on/$machine/toolchain/bin" clang
-cat > "$work/kit/on/$machine/toolchain/bin/clang" <<END
-#!/bin/sh
-case " \$* " in *" -O3 "*) /bin/cp module.bc "$work/module.bc" ;; esac
-exec "$own/bin/clang" "\$@"
-END
-chmod +x "$work/kit/on/$machine/toolchain/bin/clang"
+room=$(mktemp -d)
+trap 'rm -rf "$room"' EXIT
+mkdir -p "$root/target/records"
 
 # A program that fills a table of one record.
-mkdir -p "$work/program/crates/filled/src"
-cp -R "$root/crates" "$work/program"
-cp "$root/crates.txt" "$work/program"
-echo "filled: $(sed -n 's/^list_record_table: */list_record_table /p' "$root/crates.txt")" >> "$work/program/crates.txt"
-cat > "$work/program/crates/filled/src/main.rt" <<'END'
-use list_spec::Record;
-use iff_name::Kind;
-use iff_name::Name;
+mkdir -p "$room/crates/filled/src"
+echo 'filled: list_record_table list_spec iff_name' > "$room/crates.txt"
+cat > "$room/crates/filled/src/main.rt" <<'END'
+// Fills a table of one record.
+#![tactic(auto)]
 
-fn fill(table: &mut [Record]) {
-    list_record_table::fill(b"", table);
-}
+use iff_name::{Kind, Name};
+use list_spec::Record;
 
 fn main() {
     let mut table = [Record {
@@ -56,16 +31,36 @@ fn main() {
         place: 0,
         size: 0,
     }; 1];
-    fill(&mut table);
+    list_record_table::fill(b"", &mut table);
 }
 END
-(cd "$work/program" && RATTLE_HOME=$work/kit rt try filled > "$work/tried" 2>&1) || { cat "$work/tried"; exit 1; }
+"$root/.ci/proved" "$room" list_record_table > "$room/proved.log" 2>&1 || { cat "$room/proved.log"; exit 1; }
 
-"$own/bin/clang" -x ir -S -emit-llvm -O0 -Xclang -disable-llvm-passes "$work/module.bc" -o "$work/module.ll"
-sed -e 's/define internal void @"list_record_table::fill"/define void @records_fill/' -e 's/@"list_record_table::fill"/@records_fill/g' \
-    -e '/^define i32 @main()/,/^}/d' "$work/module.ll" > "$work/fill.ll"
-"$own/bin/clang" --target=x86_64-unknown-linux-gnu -march=x86-64 -ffunction-sections -fdata-sections -fPIE -O3 \
-    -c -x ir "$work/fill.ll" -o "$work/fill.o"
+# A compiler that makes fill.o too, of the same module with a global name for that function and with no main.
+mkdir -p "$room/toolchain/bin"
+ln -s "$kit/toolchain/lib" "$room/toolchain"
+for tool in "$kit"/toolchain/bin/*; do
+    ln -s "$tool" "$room/toolchain/bin"
+done
+rm "$room/toolchain/bin/clang"
+cat > "$room/toolchain/bin/clang" <<END
+#!/bin/sh
+set -eu
+clang=$kit/toolchain/bin/clang
+case " \$* " in *' module.bc '*)
+    cp module.bc whole.bc
+    "\$clang" -x ir -S -emit-llvm -O0 -Xclang -disable-llvm-passes whole.bc -o whole.ll
+    sed -e 's/define internal void @"list_record_table::fill"/define void @records_fill/' \\
+        -e 's/@"list_record_table::fill"/@records_fill/g' -e '/^define i32 @main()/,/^}/d' whole.ll > module.bc
+    "\$clang" "\$@"
+    cp module.o "$root/target/records/fill.o"
+    mv whole.bc module.bc
+    ;;
+esac
+exec "\$clang" "\$@"
+END
+chmod +x "$room/toolchain/bin/clang"
+"$root/.ci/build" "$room" filled "$room/filled.o" "$room/toolchain"
 cargo build --offline --quiet --release --features records --bin records
 ulimit -s 256
-exec "$CARGO_TARGET_DIR/release/records"
+"$CARGO_TARGET_DIR/release/records"

@@ -18,32 +18,24 @@ struct Record {
     size: usize,
 }
 
-#[repr(C)]
-struct Lent<T> {
-    start: *mut T,
-    length: usize,
-}
-
 extern "C" {
-    fn records_fill(answer: *mut [usize; 8], file: *const Lent<u8>, table: *const Lent<Record>);
+    /// As the compiler passes them: room for the answer, then each slice as where it starts and how long it is.
+    fn records_fill(answer: *mut [usize; 8], file: *const u8, length: usize, table: *mut Record, room: usize);
 }
 
 const TURNS: usize = 15;
 const GROWTH: f64 = 2.3;
 const UNTOUCHED: Record = Record { number: 9, level: 9, kind: 9, name: 9, place: 9, size: 9 };
 
-fn fill(file: &mut [u8], table: &mut [Record]) {
+fn fill(file: &[u8], table: &mut [Record]) {
     let mut answer = [0; 8];
-    let file = Lent { start: file.as_mut_ptr(), length: file.len() };
-    let table = Lent { start: table.as_mut_ptr(), length: table.len() };
-    unsafe { records_fill(&mut answer, &file, &table) }
+    unsafe { records_fill(&mut answer, file.as_ptr(), file.len(), table.as_mut_ptr(), table.len()) }
 }
 
-/// The number of a kind, from the compiler's, which begins with 0 and has filler before local chunks.
+/// The number of a kind, from the compiler's, which begins with 0; of a record that nothing was put into, its own.
 fn kind_number(kind: u8) -> u8 {
     match kind {
-        0..=3 => kind + 1,
-        4 => 6,
+        0..=5 => kind + 1,
         other => other,
     }
 }
@@ -75,7 +67,7 @@ impl Subject {
     fn turn(&mut self) {
         self.table.fill(UNTOUCHED);
         let start = now();
-        fill(&mut self.file, &mut self.table);
+        fill(&self.file, &mut self.table);
         self.least = self.least.min(now() - start);
     }
 

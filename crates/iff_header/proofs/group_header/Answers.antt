@@ -10,16 +10,16 @@ returns-then-z-lt4-clause-is c = refuse_10 _ _ _ _ _ _ c.if-levels-eq0.false c.i
 
 pub returns-then-second_prop-clause-is : goal.returns-then-second_prop-clause-is
 returns-then-second_prop-clause-is c = refuse_12 _ _ _ _ _ _ c.if-levels-eq0.false
-      c.if-z-lt4.false c.name_at-t.ensures
-      c.group_type.ensures c.if-group_type.true c.second_prop.ensures
-      c.if-second_prop.true
+    c.if-z-lt4.false c.name_at-t.ensures
+    c.group_type.ensures c.if-group_type.true c.second_prop.ensures
+    c.if-second_prop.true
 
 pub returns-then-group_type-clause-is : goal.returns-then-group_type-clause-is
 returns-then-group_type-clause-is c = group_sound _ _ _ _ _ _ c.if-levels-eq0.false
-      c.if-z-lt4.false c.name_at-t.ensures
-      c.group_type.ensures c.if-group_type.true c.second_prop.ensures
-      c.if-second_prop.false
+    c.if-z-lt4.false c.name_at-t.ensures
+    c.group_type.ensures c.if-group_type.true c.second_prop.ensures
+    c.if-second_prop.false
 
 pub returns-clause-is : goal.returns-clause-is
 returns-clause-is c = refuse_11 _ _ _ _ _ _ c.if-levels-eq0.false c.if-z-lt4.false
-      c.name_at-t.ensures c.group_type.ensures c.if-group_type.false
+    c.name_at-t.ensures c.group_type.ensures c.if-group_type.false

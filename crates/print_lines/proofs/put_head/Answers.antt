@@ -24,7 +24,7 @@ returns-clause-begins c =
     let q = c.put_two-b in
     let s = c.put_two in
     let last : s.result ≤ q.result + 9 + 9 + 42 = s.ensures.upper_bound in head_put p.new.out q.new.out s.new.out p.result q.result s.result g.chunks g.end g.trailing g.pictures
-          p.ensures.begins q.ensures.puts s.ensures.puts
+    p.ensures.begins q.ensures.puts s.ensures.puts
 
 pub returns-clause-upper_bound : goal.returns-clause-upper_bound
 unfolding letters_up_to

@@ -30,7 +30,7 @@ returns-clause-begins c =
     let s = c.put_name-c in
     let t = c.put_two in
     let last : t.result ≤ s.result + 3 + 5 + 42 = t.ensures.upper_bound in record_put g.out.now p.new.out q.new.out s.new.out t.new.out p.result q.result s.result t.result
-          g.number g.level g.kind g.name.code g.place g.size p.ensures.puts q.ensures.puts s.ensures.puts t.ensures.puts
+    g.number g.level g.kind g.name.code g.place g.size p.ensures.puts q.ensures.puts s.ensures.puts t.ensures.puts
 
 pub returns-clause-upper_bound : goal.returns-clause-upper_bound
 unfolding letters_up_to
