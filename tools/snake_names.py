@@ -133,7 +133,7 @@ def main():
                     fields.add(m.group(1))
 
     changed = 0
-    for p in list(antt_files()) + sorted(glob.glob("crates/*/src/**/*.rt", recursive=True)) + sorted(glob.glob("crates/*/must-fail/**/*.edit", recursive=True)):
+    for p in list(antt_files()) + sorted(glob.glob("crates/*/src/**/*.rt", recursive=True)) + sorted(glob.glob("crates/*/must-fail*/**/*.edit", recursive=True)):
         old = open(p, encoding="utf-8").read()
         aliases = set()
         for m in re.finditer(r"use (Rattle[^\s{};]*) as ([^\s;]+)", old):

@@ -7,7 +7,7 @@ use mir.Syntax.{w64}
 use mir.Val.{Fits}
 use native.Mathlib.Omega.{arith}
 use Rattle.byterun_row.specs.ByteRun.{Row, filled, over, short, code_of, prepend, on_code, unpack_row, answer_of}
-use Rattle.byterun_row.specs.laws.Steps.{row_none, row_step, Within, code_within}
+use Rattle.byterun_row.proofs.laws.Steps.{row_none, row_step, Within, code_within}
 use Rattle.byterun_row.specs.declared.Code.{Code}
 use Rattle.byterun_row.specs.declared.Code.TheVariants.{Missing, Skip, Copy, Repeat, Long, Cut}
 use Rattle.byterun_row.specs.declared.RowAnswer.{RowAnswer}

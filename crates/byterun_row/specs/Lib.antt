@@ -1,3 +1,2 @@
 pub mod ByteRun
 pub mod Packing
-pub mod laws

@@ -9,7 +9,7 @@ use mir.Val.{Fits}
 use native.Mathlib.Nat.{le_refl}
 use native.Mathlib.Omega.{arith}
 use Rattle.byterun_row.specs.ByteRun.{Row, filled, over, short, code_of, prepend, on_code, unpack_row, IsFull}
-use Rattle.byterun_row.specs.laws.Steps.{row_none}
+use Rattle.byterun_row.proofs.laws.Steps.{row_none}
 use Rattle.byterun_row.specs.declared.Code.{Code}
 use Rattle.byterun_row.specs.declared.Code.TheVariants.{Missing, Skip, Copy, Repeat, Long, Cut}
 use Rattle.byterun_row.proofs.Steps.{stepped, skip_fits, skip_less, copy_code_fits, copy_fits, copy_inside, copy_left, copy_less}

@@ -4,7 +4,7 @@ use mathlib.Core.Path.{◌≡◌, ◌∙◌}
 use mathlib.Core.List.{List, []}
 use mathlib.Core.Option.{some}
 use lib.Seq.{slice}
-use Rattle.iff_grammar.specs.laws.Words.{slice_take}
+use Rattle.iff_grammar.proofs.laws.Words.{slice_take}
 use Rattle.ilbm_spec.specs.declared.BitmapHeader.{BitmapHeader}
 use Rattle.ilbm_spec.specs.Contents.{Located, Property, own, shared, absent}
 use Rattle.ilbm_spec.specs.Pictures.{Viewed, view_of, palette_of_property}

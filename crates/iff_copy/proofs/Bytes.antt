@@ -9,7 +9,7 @@ use lib.Seq.{set_at}
 use borrow.Author.Tests.{eq-eqb, ne_eqb}
 use Rattle.iff_name.specs.Name.{pick}
 use Rattle.iff_chunk.specs.Chunks.{Chunks, none, leaf, group, put_word, bytes}
-use Rattle.iff_grammar.specs.laws.Read.{length_leaf, length_group}
+use Rattle.iff_grammar.proofs.laws.Read.{length_leaf, length_group}
 use Rattle.iff_walk.specs.Order.{join}
 use Rattle.iff_walk.specs.laws.Order.{join_bytes}
 use Rattle.iff_copy.specs.Clean.{zero_pads}

@@ -1,5 +1,3 @@
 pub mod Grammar
 pub mod Words
 pub mod Read
-pub mod Accept
-pub mod laws

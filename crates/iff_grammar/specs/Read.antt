@@ -5,7 +5,6 @@ use Rattle.iff_name.specs.Codes.{PROP}
 use Rattle.iff_name.specs.Name.{kind_of}
 use Rattle.iff_chunk.specs.Chunks.{Chunks, none, leaf, group, bytes}
 use Rattle.iff_rules.specs.Rules.{is_group}
-use Rattle.iff_grammar.specs.laws.Words.{fits}
 
 -- chunks of which none is a group
 abbrev pub Flat : Chunks → Type 0

@@ -11,7 +11,7 @@ use Rattle.ilbm_spec.specs.declared.FrameAnswer.{FrameAnswer}
 use Rattle.ilbm_spec.specs.declared.FrameAnswer.TheVariants.{Refused as Frame-refused}
 use Rattle.ilbm_spec.specs.Pictures.{empty_fields, fields_refusal}
 use Rattle.ilbm_spec.specs.Rows.{Read, on_fields}
-use Rattle.ilbm_spec.specs.laws.Pictures as Pictures
+use Rattle.ilbm_spec.proofs.laws.Pictures as Pictures
 use Rattle.ilbm_body_rows.proofs.Laws.{LineAnswered, FrameAnswered}
 
 -- the refusal of the fields of a BODY's header

@@ -8,7 +8,7 @@ use native.Mathlib.Nat.{min-eq_left}
 use native.Mathlib.Omega.{arith}
 use Rattle.iff_tree.specs.Judge.{found, refused}
 use Rattle.ilbm_spec.specs.Rows.{row_length, Read, then_read, rows_from, colour_numbers, line_with, line_by}
-use Rattle.ilbm_spec.specs.laws.Rows.{one_value, one_place}
+use Rattle.ilbm_spec.proofs.laws.Rows.{one_value, one_place}
 use Rattle.ilbm_colour_words.specs.Words.{WordStep, carried_words, word_pixels}
 
 module _ (compression w planes rows : ℕ) (body : List ℕ) (at : ℕ) where

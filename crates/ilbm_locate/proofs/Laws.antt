@@ -11,7 +11,7 @@ use Rattle.iff_name.specs.Name.{kind_of}
 use Rattle.iff_name.specs.declared.Kind.{Kind}
 use Rattle.iff_chunk.specs.Chunks.{Chunks, none, leaf, group, bytes, word}
 use Rattle.iff_rules.specs.Rules.{is_group}
-use Rattle.iff_grammar.specs.laws.Read.{leaf_name, group_fits, group_name, group_size, group_type_lem, group_members, length_group}
+use Rattle.iff_grammar.proofs.laws.Read.{leaf_name, group_fits, group_name, group_size, group_type_lem, group_members, length_group}
 use Rattle.ilbm_members.specs.Members.{Holds, Row}
 use Rattle.ilbm_members.proofs.Laws.{row_room}
 use Rattle.ilbm_locate.specs.Spots.{Opens, group_is, IsGroup, GroupAt}

@@ -9,7 +9,7 @@ use borrow.Author.Tests.{eq-eqb, ne_eqb}
 use native.Mathlib.Omega.{arith}
 use Rattle.iff_name.specs.Codes.{LIST}
 use Rattle.iff_chunk.specs.Chunks.{Chunks, none, leaf, group, bytes, word}
-use Rattle.iff_grammar.specs.laws.Read.{length_leaf, length_group}
+use Rattle.iff_grammar.proofs.laws.Read.{length_leaf, length_group}
 use Rattle.ilbm_spec.specs.Names.{BMHD, CMAP, GRAB, DEST, SPRT, CAMG, is_shared_prop}
 use Rattle.ilbm_spec.specs.Contents.{Located, last_named, nowhere, Property, shared_or, Scope as Shares, no_scope, prop_scope}
 use Rattle.ilbm_spec.specs.Contents.{list_scope, scope_inside}

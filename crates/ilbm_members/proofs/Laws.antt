@@ -10,9 +10,9 @@ use native.Mathlib.Omega.{arith}
 use Rattle.iff_name.specs.Name.{kind_of}
 use Rattle.iff_chunk.specs.Chunks.{Chunks, none, leaf, group, bytes, word, next_at}
 use Rattle.iff_rules.specs.Rules.{is_group}
-use Rattle.iff_grammar.specs.laws.Read.{leaf_fits, leaf_name, leaf_size, leaf_data, leaf_next, leaf_rest, group_name, group_next}
-use Rattle.iff_grammar.specs.laws.Read.{group_rest}
-use Rattle.iff_grammar.specs.laws.Read.{length_leaf, length_group}
+use Rattle.iff_grammar.proofs.laws.Read.{leaf_fits, leaf_name, leaf_size, leaf_data, leaf_next, leaf_rest, group_name, group_next}
+use Rattle.iff_grammar.proofs.laws.Read.{group_rest}
+use Rattle.iff_grammar.proofs.laws.Read.{length_leaf, length_group}
 use Rattle.ilbm_members.specs.declared.Sibling.{Sibling}
 use Rattle.ilbm_members.specs.Members.{Holds, Row, Front, Tells}
 

@@ -10,7 +10,7 @@ use native.Mathlib.Numerals.{add-one}
 use native.Mathlib.Omega.{arith}
 use Rattle.byterun_row.specs.ByteRun.{Row, filled, over, short, row_of, IsFull}
 use Rattle.ilbm_spec.specs.Rows.{Read, then_read, IsRead, row_read, rows_from}
-use Rattle.ilbm_spec.specs.laws.Rows.{one_value, one_place}
+use Rattle.ilbm_spec.proofs.laws.Rows.{one_value, one_place}
 use Rattle.ilbm_gather.specs.Buffer.{rows_in}
 use Rattle.ilbm_gather.proofs.Colours.{row_room}
 use Rattle.iff_tree.specs.Judge.{found, refused}

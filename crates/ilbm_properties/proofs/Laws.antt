@@ -18,7 +18,7 @@ use Rattle.ilbm_spec.specs.declared.PictureAnswer.TheVariants.{Shown, Refused}
 use Rattle.ilbm_spec.specs.Contents.{Property, own, shared, absent, Content}
 use Rattle.ilbm_spec.specs.Pictures.{u16, header_in, hot_spot_in, destination_in, data_of, origin_of, counts, size_not, size_not_triples}
 use Rattle.ilbm_spec.specs.Pictures.{wrong_size, header_refusal, picture_refusal, picture_from, view_of, picture_of}
-use Rattle.ilbm_spec.specs.laws.Pictures.{sizes_right}
+use Rattle.ilbm_spec.proofs.laws.Pictures.{sizes_right}
 use Rattle.ilbm_content.proofs.Laws.{origin_is}
 use Rattle.ilbm_content.specs.declared.Part.TheVariants.{Nothing, Between}
 use Rattle.ilbm_content.specs.declared.Held.{Held}

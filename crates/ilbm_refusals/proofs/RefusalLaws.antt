@@ -10,7 +10,7 @@ use lib.Seq.{slice}
 use borrow.Author.Tests.{lt-ltb, le-ltb, eqb-true}
 use native.Mathlib.Omega.{arith}
 use Rattle.iff_name.specs.Name.{either}
-use Rattle.iff_grammar.specs.laws.Words.{slice_take}
+use Rattle.iff_grammar.proofs.laws.Words.{slice_take}
 use Rattle.ilbm_spec.specs.declared.BitmapHeader.{BitmapHeader}
 use Rattle.ilbm_spec.specs.Contents.{Property, own, shared, absent, Content}
 use Rattle.ilbm_spec.specs.Pictures.{data_of, counts, size_not, wrong_size, header_in, header_refusal, picture_refusal}

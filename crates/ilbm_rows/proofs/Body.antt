@@ -7,13 +7,13 @@ use lib.ListN.{length, take, drop}
 use lib.Seq.{slice}
 use native.Mathlib.Omega.{arith}
 use Rattle.iff_tree.specs.Judge.{found}
-use Rattle.iff_grammar.specs.laws.Words.{slice_take}
+use Rattle.iff_grammar.proofs.laws.Words.{slice_take}
 use Rattle.ilbm_spec.specs.declared.BitmapHeader.{BitmapHeader}
 use Rattle.ilbm_spec.specs.declared.LineAnswer.{LineAnswer}
 use Rattle.ilbm_spec.specs.declared.FrameAnswer.{FrameAnswer}
 use Rattle.ilbm_spec.specs.Contents.{Located, Content}
 use Rattle.ilbm_spec.specs.Rows.{Read, line_in_body, frame_in_body, line_read, frame_read, line_answer, frame_answer, bytes_after}
-use Rattle.ilbm_spec.specs.laws.Pictures.{line_fields, frame_fields}
+use Rattle.ilbm_spec.proofs.laws.Pictures.{line_fields, frame_fields}
 use Rattle.ilbm_members.specs.Gathers.{first_of}
 use Rattle.ilbm_content.specs.declared.Part.TheVariants.{Between}
 use Rattle.ilbm_content.specs.declared.Contents.{Contents}

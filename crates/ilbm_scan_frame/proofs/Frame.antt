@@ -10,7 +10,7 @@ use mir.Val.{Fits}
 use native.Mathlib.Nat.{zero-mul, suc-mul, add-mul, one-mul, mul_comm, mul-le-mul_left}
 use native.Mathlib.Omega.{arith}
 use Rattle.ilbm_spec.specs.Rows.{Read, then_read, IsRead, row_read, rows_from, Pixels, line_with, lines_with, line_answer, bytes_after}
-use Rattle.ilbm_spec.specs.laws.Rows.{one_value, one_place}
+use Rattle.ilbm_spec.proofs.laws.Rows.{one_value, one_place}
 use Rattle.byterun_row.specs.ByteRun.{row_of}
 use Rattle.ilbm_gather.proofs.Colours.{row_room}
 use Rattle.ilbm_spec.specs.declared.LineAnswer.{LineAnswer}

@@ -9,4 +9,7 @@ pub mod Colours
 pub mod Triples
 pub mod ColourExamples
 pub mod Table
-pub mod laws
+pub mod Ignored
+pub mod Moved
+pub mod ShapeBesideColours
+pub mod ColoursOfNumbers

@@ -9,7 +9,7 @@ use Rattle.iff_name.specs.Name.{kind_of}
 use Rattle.iff_name.specs.declared.Kind.{Kind}
 use Rattle.iff_chunk.specs.Chunks.{Chunks, none, leaf, group, bytes, word}
 use Rattle.iff_rules.specs.Rules.{is_section}
-use Rattle.iff_grammar.specs.laws.Read.{length_leaf, length_group}
+use Rattle.iff_grammar.proofs.laws.Read.{length_leaf, length_group}
 use Rattle.ilbm_spec.specs.Names.{is_picture}
 use Rattle.ilbm_spec.specs.Contents.{Scope as Shares, scope_inside, Content, content_of, contents_from}
 use Rattle.ilbm_members.specs.declared.Sibling.{Sibling}

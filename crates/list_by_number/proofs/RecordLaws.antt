@@ -9,7 +9,7 @@ use Rattle.iff_tree.specs.declared.Verdict.TheVariants.{Accepted}
 use Rattle.iff_grammar.specs.Words.{Bytes}
 use Rattle.list_spec.specs.declared.Listed.TheVariants.{Refused}
 use Rattle.list_spec.specs.Records.{record_of, count_of}
-use Rattle.list_spec.specs.laws.Counts.{record_beyond}
+use Rattle.list_spec.proofs.laws.Counts.{record_beyond}
 use Rattle.list_cursor.specs.Cursors.{first_cursor, Located}
 use Rattle.list_cursor.specs.laws.Walk.{located_first}
 

@@ -15,7 +15,7 @@ use Rattle.iff_tree.specs.declared.Verdict.{Verdict}
 use Rattle.iff_tree.specs.declared.Verdict.TheVariants.{Accepted, Refused as Verdict-refused}
 use Rattle.iff_grammar.specs.Words.{Bytes}
 use Rattle.list_spec.specs.Records.{records_of}
-use Rattle.list_spec.specs.laws.Counts.{length_records}
+use Rattle.list_spec.proofs.laws.Counts.{length_records}
 use Rattle.list_cursor.specs.laws.Walk.{located_first}
 use Rattle.list_capacity.specs.Capacity.{records_in, records_for, answer_of, to_put, Ready}
 

@@ -8,14 +8,14 @@ use lib.ListN.{take, drop}
 use lib.Seq.{slice}
 use Rattle.iff_rules.specs.Rules.{is_group}
 use Rattle.iff_grammar.specs.Words.{Bytes}
-use Rattle.iff_grammar.specs.laws.Words.{slice_take}
+use Rattle.iff_grammar.proofs.laws.Words.{slice_take}
 use Rattle.list_spec.specs.declared.Record.{Record}
 use Rattle.list_spec.specs.declared.Listed.{Listed}
 use Rattle.list_spec.specs.declared.Listed.TheVariants.{Chunk as Listed-chunk, Refused}
 use Rattle.list_spec.specs.declared.Extent.{Extent}
 use Rattle.list_spec.specs.Records.{record_of}
 use Rattle.list_spec.specs.Contents.{data_of, no_extent, extent_in, extent_of, Lies, Answer, data_answer, data_pointer}
-use Rattle.list_spec.specs.laws.Data.{extent_lies, record_inside}
+use Rattle.list_spec.proofs.laws.Data.{extent_lies, record_inside}
 
 -- where the data of a record's chunk lies
 

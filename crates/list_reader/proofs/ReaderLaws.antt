@@ -22,7 +22,7 @@ use Rattle.list_reader.specs.declared.Step.TheVariants.{Chunk, End}
 use Rattle.list_reader.specs.declared.Opening.{Opening}
 use Rattle.list_reader.specs.Reading.{opening_of, step_in, step_at, place_after}
 use Rattle.list_reader.specs.Agree.{place_before}
-use Rattle.list_reader.specs.laws.Agree.{given_below, ended_behind, number_small}
+use Rattle.list_reader.proofs.laws.Agree.{given_below, ended_behind, number_small}
 
 -- by the verdict of the check
 

@@ -10,7 +10,7 @@ use Rattle.list_spec.specs.declared.Record.{Record}
 use Rattle.list_spec.specs.declared.Listed.{Listed}
 use Rattle.list_spec.specs.declared.Listed.TheVariants.{Chunk as Listed-chunk, Refused}
 use Rattle.list_spec.specs.Records.{records_of, pick_record, record_in, record_of, count_in, count_of}
-use Rattle.list_spec.specs.laws.Counts.{length_records}
+use Rattle.list_spec.proofs.laws.Counts.{length_records}
 
 picked : (all : List Record) (i k p : ℕ) → i < length all → pick_record all i ≡ Refused k p → ⊥
 unfolding pick_record

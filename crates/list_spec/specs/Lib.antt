@@ -1,3 +1,3 @@
 pub mod Records
 pub mod Contents
-pub mod laws
+pub mod Tells

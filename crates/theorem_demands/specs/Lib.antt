@@ -3,5 +3,3 @@ pub mod Refusals
 pub mod Examples
 pub mod Listings
 pub mod Tables
-pub mod Demands
-pub mod laws

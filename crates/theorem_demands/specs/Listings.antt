@@ -9,11 +9,11 @@ use Rattle.list_spec.specs.declared.Listed.TheVariants.{Chunk as Listed-chunk}
 use Rattle.list_spec.specs.Records.{record_of}
 use Rattle.list_capacity.specs.Capacity.{records_for, answer_of}
 use Rattle.list_record_table.specs.Rows.{placed}
-use Rattle.list_record_table.specs.laws.Agree.{numbers_agree}
+use Rattle.list_record_table.proofs.laws.Agree.{numbers_agree}
 use Rattle.list_reader.specs.declared.Step.TheVariants.{Chunk as Step-chunk}
 use Rattle.list_reader.specs.Reading.{step_in, step_at}
 use Rattle.list_reader.specs.Agree.{place_before}
-use Rattle.list_reader.specs.laws.Agree.{reader_gives}
+use Rattle.list_reader.proofs.laws.Agree.{reader_gives}
 
 -- the table of a file, in a lent one with these records
 abbrev pub table_of : List ℕ → List Record → List Record

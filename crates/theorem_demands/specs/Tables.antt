@@ -5,7 +5,7 @@ use Rattle.std.proofs.Common.{sym, ap, ◌∙◌, arith, le-ltb}
 use Rattle.iff_chunk.specs.Chunks.{Chunk}
 use Rattle.iff_tree.specs.Judge.{found, read_file}
 use Rattle.iff_grammar.specs.Words.{Bytes}
-use Rattle.iff_grammar.specs.Accept.{sound}
+use Rattle.iff_grammar.proofs.Accept.{sound}
 use Rattle.ilbm_spec.specs.declared.BitmapHeader.{BitmapHeader}
 use Rattle.ilbm_spec.specs.declared.PictureAnswer.TheVariants.{Shown}
 use Rattle.ilbm_spec.specs.declared.LineAnswer.{LineAnswer}
@@ -20,16 +20,17 @@ use Rattle.write_picture.specs.declared.WriteAnswer.TheVariants.{Written}
 use Rattle.write_picture.specs.Write.{write_of, out_after}
 use Rattle.theorem_table.specs.ByTable.{row_at, view_by, properties_by, palette_by, extent_by, palette_triples_by, scan_line_by, frame_by}
 use Rattle.theorem_table.specs.ByTable.{shape_line_by, shape_frame_by, colour_line_by, colour_frame_by, ByTable}
-use Rattle.theorem_table.specs.Theorem.{tree_by_table}
-use Rattle.theorem_table.specs.laws.Rows.{count_rows}
+use Rattle.theorem_table.proofs.Theorem.{tree_by_table}
+use Rattle.theorem_table.proofs.laws.Rows.{count_rows}
 use Rattle.theorem_additions.specs.Additions.{Addition, tree_after, file_after, MayAddAll, moved_by}
 use Rattle.theorem_additions.specs.Statement.{moved_view, moved_answer, moved_extent, line_told, frame_told, shape_line_told, shape_frame_told}
 use Rattle.theorem_additions.specs.Statement.{SameAnswers}
-use Rattle.theorem_additions.specs.laws.After.{file_after_lem}
-use Rattle.theorem_additions.specs.Demand3.{demand3}
+use Rattle.theorem_additions.proofs.laws.After.{file_after_lem}
+use Rattle.theorem_additions.proofs.Demand3.{demand3}
 use Rattle.theorem_roundtrip.specs.Expected.{picture_for, shape_for, colours_for, triples_for}
 use Rattle.theorem_roundtrip.specs.Header.{InRange}
-use Rattle.theorem_roundtrip.specs.RoundTrip.{ReadsBack, round_trip}
+use Rattle.theorem_roundtrip.specs.RoundTrip.{ReadsBack}
+use Rattle.theorem_roundtrip.proofs.RoundTrip.{round_trip}
 
 -- row i of the table of a file's pictures, in a lent one with these numbers
 abbrev pub row_of : List ℕ → List ℕ → ℕ → PictureRow

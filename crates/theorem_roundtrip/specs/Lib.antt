@@ -1,4 +1,3 @@
 pub mod Expected
 pub mod Header
 pub mod RoundTrip
-pub mod laws

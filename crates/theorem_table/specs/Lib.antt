@@ -1,3 +1,2 @@
 pub mod ByTable
-pub mod Theorem
-pub mod laws
+pub mod Lies

@@ -1,7 +1,7 @@
 -- A packed row of bytes is bytes: every code is below 256, and the others are the row's own.
 use Rattle.std.specs.Prelude.{ℕ, zero, suc, ◌-◌, ◌≤◌, List, [], ◌∷◌, ◌++◌, length, get_or, take, drop}
 use Rattle.std.proofs.Common.{length-drop, arith}
-use Rattle.byterun_row.specs.laws.Bytes.{Bytes, bytes_none, bytes_cons, bytes_at, bytes_append, bytes_take, bytes_drop}
+use Rattle.byterun_row.proofs.laws.Bytes.{Bytes, bytes_none, bytes_cons, bytes_at, bytes_append, bytes_take, bytes_drop}
 use Rattle.byterun_pieces.specs.Pieces.{piece_of}
 use Rattle.byterun_pack.specs.Pack.{on_piece, packed}
 use Rattle.byterun_pack.specs.laws.Packed.{Taken, piece_taken, packed_none, packed_step}

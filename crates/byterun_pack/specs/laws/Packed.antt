@@ -4,7 +4,7 @@ use Rattle.std.specs.Prelude.{ℕ, zero, suc, ◌+◌, ◌-◌, ◌/◌, ◌<◌
 use Rattle.std.proofs.Common.{sym, ap, ◌∙◌, length-append, length-drop, take-append-drop, length-take-le, lt-ltb, le-ltb, ltb-true, ltb-false, eqb-true, eq-eqb, arith}
 use Rattle.iff_name.specs.Name.{pick}
 use Rattle.byterun_row.specs.Packing.{Packs}
-use Rattle.byterun_row.specs.laws.Packing.{packs_none, packs_literal, packs_repeat}
+use Rattle.byterun_row.proofs.laws.Packing.{packs_none, packs_literal, packs_repeat}
 use Rattle.byterun_pieces.specs.Pieces.{three, same_for, plain_for, piece_of}
 use Rattle.byterun_pack.specs.Pack.{on_piece, pack_by, packed, most_for}
 use Rattle.byterun_pieces.specs.declared.Piece.{Piece}

@@ -3,7 +3,7 @@ use Rattle.std.specs.Prelude.{ℕ, ◌+◌, ◌≤◌, ◌≡◌, List, ◌++◌
 use Rattle.std.proofs.Common.{arith}
 use Rattle.iff_name.specs.Name.{pick}
 use Rattle.byterun_row.specs.ByteRun.{filled, plain_row, unpack_row, row_of}
-use Rattle.byterun_row.specs.laws.Packing.{plain_stands, packs_unpack}
+use Rattle.byterun_row.proofs.laws.Packing.{plain_stands, packs_unpack}
 use Rattle.byterun_pack.specs.Pack.{packed, most_for}
 use Rattle.byterun_pack.specs.laws.Packed.{packed_unpacks, packed_short}
 use Rattle.byterun_pack.specs.Written.{written_row}

@@ -10,9 +10,9 @@ use Rattle.iff_rules.specs.Rules.{is_group}
 use Rattle.iff_tree.specs.Judge.{check_of}
 use Rattle.iff_grammar.specs.Grammar.{ChunkFile}
 use Rattle.iff_grammar.specs.Words.{Bytes}
-use Rattle.iff_grammar.specs.laws.Read.{leaf_name, leaf_size, leaf_data, leaf_next, leaf_rest, group_name, group_size, group_type_lem, group_members, group_next, group_rest, length_leaf, length_group}
-use Rattle.iff_grammar.specs.laws.Names.{members_regular}
-use Rattle.iff_grammar.specs.laws.Files.{file_next, file_rest, file_complete, verdict_file}
+use Rattle.iff_grammar.proofs.laws.Read.{leaf_name, leaf_size, leaf_data, leaf_next, leaf_rest, group_name, group_size, group_type_lem, group_members, group_next, group_rest, length_leaf, length_group}
+use Rattle.iff_grammar.proofs.laws.Names.{members_regular}
+use Rattle.iff_grammar.proofs.laws.Files.{file_next, file_rest, file_complete, verdict_file}
 use Rattle.iff_walk.specs.Order.{join, later, following}
 use Rattle.iff_walk.specs.laws.Order.{join_bytes, join_length, join_regular, count_bytes}
 use Rattle.iff_walk.specs.Coming.{Coming, AtLeaf, AtGroup, Sound}

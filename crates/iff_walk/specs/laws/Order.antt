@@ -3,7 +3,7 @@ use Rattle.std.specs.Prelude.{ℕ, ◌+◌, ◌*◌, ◌≤◌, ◌<◌, ◌≡�
 use Rattle.std.proofs.Common.{ap, ◌∙◌, append_assoc, arith, length-append}
 use Rattle.iff_chunk.specs.Chunks.{Chunks, none, leaf, group, put_word, bytes, count}
 use Rattle.iff_grammar.specs.Read.{Regular}
-use Rattle.iff_grammar.specs.laws.Read.{length_leaf, length_group}
+use Rattle.iff_grammar.proofs.laws.Read.{length_leaf, length_group}
 use Rattle.iff_walk.specs.Order.{join, later}
 
 pub join_bytes : (F K : Chunks) → bytes (join F K) ≡ bytes F ++ bytes K

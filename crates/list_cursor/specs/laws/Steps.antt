@@ -11,11 +11,11 @@ use Rattle.iff_name.specs.Name.{kind_of}
 use Rattle.iff_chunk.specs.Chunks.{Chunks, none, leaf, group, bytes, count, word, next_at}
 use Rattle.iff_rules.specs.Rules.{is_group}
 use Rattle.iff_grammar.specs.Grammar.{height}
-use Rattle.iff_grammar.specs.laws.Read.{leaf_fits, leaf_name, leaf_size, leaf_next, leaf_rest, length_leaf, length_group, group_fits, group_name, group_size, group_type_lem, group_members}
+use Rattle.iff_grammar.proofs.laws.Read.{leaf_fits, leaf_name, leaf_size, leaf_next, leaf_rest, length_leaf, length_group, group_fits, group_name, group_size, group_type_lem, group_members}
 use Rattle.list_spec.specs.declared.Record.{Record}
 use Rattle.list_spec.specs.declared.Listed.TheVariants.{Chunk as Listed-chunk}
 use Rattle.list_spec.specs.Records.{records_from, pick_record}
-use Rattle.list_spec.specs.laws.Counts.{pick_drop, drop_one}
+use Rattle.list_spec.proofs.laws.Counts.{pick_drop, drop_one}
 use Rattle.list_cursor.specs.Cursors.{record_at, open_level, row_bytes, pending, Ends, Ready, Stands}
 
 -- ends of open groups

@@ -9,12 +9,12 @@ use Rattle.iff_tree.specs.Judge.{Found, found, refused, read_file, verdict_of, c
 use Rattle.iff_tree.specs.declared.Verdict.TheVariants.{Accepted}
 use Rattle.iff_grammar.specs.Grammar.{ChunkFile}
 use Rattle.iff_grammar.specs.Words.{Bytes}
-use Rattle.iff_grammar.specs.laws.Names.{members_regular}
-use Rattle.iff_grammar.specs.Accept.{sound}
+use Rattle.iff_grammar.proofs.laws.Names.{members_regular}
+use Rattle.iff_grammar.proofs.Accept.{sound}
 use Rattle.list_spec.specs.declared.Record.{Record}
 use Rattle.list_spec.specs.declared.Listed.TheVariants.{Chunk as Listed-chunk}
 use Rattle.list_spec.specs.Records.{records_from, records_of, record_of, count_of}
-use Rattle.list_spec.specs.laws.Counts.{length_records}
+use Rattle.list_spec.proofs.laws.Counts.{length_records}
 use Rattle.list_cursor.specs.declared.Cursor.{Cursor}
 use Rattle.list_cursor.specs.Cursors.{first_cursor, record_at, entered, passed, group_at, onward_at, Enterable, Passable, Ready, Stands, Located}
 use Rattle.list_cursor.specs.laws.Steps.{Settled, settle, leaf_room, leaf_past, leaf_kind, leaf_record, leaf_step, group_room, group_end, group_slot, group_kind, group_record, group_step}
