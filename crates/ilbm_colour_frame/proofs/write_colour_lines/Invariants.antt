@@ -11,8 +11,9 @@ use Rattle.ilbm_colour_frame.proofs.write_colour_lines.Given as goal
 
 abbrev pub invariant-loop-y : goal.invariant-loop-y
 invariant-loop-y l =
+    let pixels = word_pixels l.w l.planes (step_by l.hold l.keep l.set) in
     (l.y ≤ l.h) × (length l.buffer ≡ length l.initial.buffer) × (length l.frame ≡ length l.initial.frame) ×
-    Drawn (word_pixels l.w l.planes (step_by l.hold l.keep l.set)) l.compression (row_length l.w) (3 * l.w) l.rows l.body l.h l.y l.q l.frame
+    Drawn pixels l.compression (row_length l.w) (3 * l.w) l.rows l.body l.h l.y l.q l.frame
 
 abbrev pub decreases-loop-y : goal.decreases-loop-y
 decreases-loop-y l = l.h - l.y

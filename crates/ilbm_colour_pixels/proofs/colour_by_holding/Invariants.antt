@@ -9,7 +9,8 @@ use Rattle.ilbm_colour_pixels.proofs.colour_by_holding.Given as goal
 
 abbrev pub invariant-loop-x : goal.invariant-loop-x
 invariant-loop-x l =
-    (l.x ≤ l.w) × (length l.row ≡ 3 * l.w) × Front (by_holding l.keep l.set) l.w (carried_words (by_holding l.keep l.set) 0 (drop (2 * l.w) l.initial.row)) l.x l.held l.row
+    let step = by_holding l.keep l.set in
+    (l.x ≤ l.w) × (length l.row ≡ 3 * l.w) × Front step l.w (carried_words step 0 (drop (2 * l.w) l.initial.row)) l.x l.held l.row
 
 abbrev pub decreases-loop-x : goal.decreases-loop-x
 decreases-loop-x l = l.w - l.x

@@ -19,7 +19,8 @@ loop-x-preserved c = (
 
 pub returns-then-x-w : goal.returns-then-x-w
 returns-then-x-w c =
-    let last = front_next _ _ _ _ _ _ c.loop-x.invariant.1 c.loop-x.invariant.2.1 _ _ [] c.looked_up-v-then-x-w.ensures (search rules) (search rules)
+    let inv = c.loop-x.invariant in
+    let last = front_next _ _ _ _ _ _ inv.1 inv.2.1 _ _ [] c.looked_up-v-then-x-w.ensures (search rules) (search rules)
     c.put_last.ensures in
     front_end _ _ _ _ _ _ (search rules) last (search rules)
 

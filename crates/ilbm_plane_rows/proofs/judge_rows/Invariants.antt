@@ -1,4 +1,5 @@
--- `judge_rows` meets its contract. The loop's invariant: the rows after the first k are told of as all the rows are; the measure is their number.
+-- `judge_rows` meets its contract. The loop's invariant: the rows after the first k are told of as all the rows are; the
+-- measure is their number.
 use Prim.Native.Nat.{◌-◌, ◌≤◌}
 use Rattle.ilbm_plane_rows.proofs.Judging.{Judged}
 use Rattle.ilbm_plane_rows.proofs.judge_rows.Given as goal

@@ -25,11 +25,12 @@ loop-y-preserved c =
     let new = l.new.row in
     let kept = l.auto.row in
     let room : from + w ≤ length frame =
-    omega (arith, line_inside c.loop-y.y c.args.h w (length c.args.frame.now) c.loop-y-test.true c.requires.w_in_bounds.1) in (
+    omega (arith, line_inside c.loop-y.y c.args.h w (length c.args.frame.now) c.loop-y-test.true c.requires.w_in_bounds.1) in
+    let long = kept ∙ part_long from w frame room in (
       search rules,
       l.auto.buffer ∙ c.loop-y.invariant.1,
       same_len_mid from (from + w - from) frame new kept ∙ c.loop-y.invariant.2,
-      drawn_more _ _ _ _ _ _ _ _ _ frame c.loop-y.invariant.3 c.loop-y-test.true l.result new _ room (kept ∙ part_long from w frame room) l.ensures,
+      drawn_more _ _ _ _ _ _ _ _ _ frame c.loop-y.invariant.3 c.loop-y-test.true l.result new _ room long l.ensures,
     )
 
 pub returns : goal.returns

@@ -1,0 +1,7 @@
+-- Without a BODY it is 25; with one, `shape_line_in_body` has the answer, for the header that counts.
+use borrow.Author.Rules.{rules}
+use Rattle.ilbm_shapes.proofs.Body.{line_done}
+use Rattle.ilbm_shapes.proofs.picture_shape_line.Goals as goal
+
+pub returns-in-Between : goal.returns-in-Between
+returns-in-Between c = search (line_done, rules)
