@@ -12,7 +12,7 @@ use Rattle.ilbm_spec.specs.Contents.{Content}
 use Rattle.ilbm_spec.specs.Rows.{Read, line_answer, frame_answer, bytes_after}
 use Rattle.ilbm_spec.specs.Pictures.{palette_of_property}
 use Rattle.ilbm_spec.specs.Colours.{colour_line_in_body, colour_frame_in_body, colour_line_read, colour_frame_read, mode_of_view}
-use Rattle.ilbm_spec.specs.laws.Pictures.{line_fields, frame_fields}
+use Rattle.ilbm_spec.proofs.laws.Pictures.{line_fields, frame_fields}
 use Rattle.ilbm_content.specs.declared.Part.TheVariants.{Between}
 use Rattle.ilbm_content.specs.declared.Contents.{Contents}
 use Rattle.ilbm_find.specs.Seen.{Shown, Judged}

@@ -11,7 +11,7 @@ use Rattle.ilbm_spec.specs.declared.FrameAnswer.{FrameAnswer}
 use Rattle.ilbm_spec.specs.Contents.{Content}
 use Rattle.ilbm_spec.specs.Rows.{Read, line_answer, frame_answer}
 use Rattle.ilbm_spec.specs.Shapes.{Shaped, shape_line_in_body, shape_frame_in_body, shape_line_read, shape_frame_read, colours_after, shape_after}
-use Rattle.ilbm_spec.specs.laws.Pictures.{line_fields, frame_fields}
+use Rattle.ilbm_spec.proofs.laws.Pictures.{line_fields, frame_fields}
 use Rattle.ilbm_content.specs.declared.Part.TheVariants.{Between}
 use Rattle.ilbm_content.specs.declared.Contents.{Contents}
 use Rattle.ilbm_find.specs.Seen.{Shown}
