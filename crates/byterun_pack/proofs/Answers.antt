@@ -8,7 +8,7 @@ use lib.Dec.{ltb}
 use borrow.Author.Tests.{lt-ltb, le-ltb, ltb-false, eq-eqb, ne_eqb}
 use native.Mathlib.Omega.{arith}
 use Rattle.byterun_pack.specs.Pack.{packed, pack_of, out_after}
-use Rattle.byterun_pack.specs.laws.Packed.{packed_short}
+use Rattle.byterun_pack.proofs.laws.Packed.{packed_short}
 use Rattle.byterun_pack.specs.declared.PackAnswer.{PackAnswer}
 use Rattle.byterun_pack.specs.declared.PackAnswer.TheVariants.{Written, BadLength, NoRoom}
 

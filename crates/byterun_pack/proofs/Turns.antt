@@ -12,7 +12,7 @@ use native.Mathlib.Omega.{arith}
 use native.Mathlib.Numerals.{add-one, one-add}
 use Rattle.byterun_pieces.specs.Pieces.{three, same_for, plain_for, piece_of}
 use Rattle.byterun_pack.specs.Pack.{on_piece, packed}
-use Rattle.byterun_pack.specs.laws.Packed.{Taken, piece_taken, packed_none, packed_step}
+use Rattle.byterun_pack.proofs.laws.Packed.{Taken, piece_taken, packed_none, packed_step}
 use Rattle.byterun_pieces.specs.declared.Piece.{Piece}
 use Rattle.byterun_pieces.specs.declared.Piece.TheVariants.{Repeat, Literal}
 use Rattle.byterun_pieces.proofs.Scan.{first, piece_repeat, piece_literal}

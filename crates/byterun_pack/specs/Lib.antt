@@ -1,3 +1,2 @@
 pub mod Pack
 pub mod Written
-pub mod laws

@@ -11,7 +11,7 @@ use Rattle.list_spec.specs.declared.Listed.TheVariants.{Refused}
 use Rattle.list_spec.specs.Records.{record_of, count_of}
 use Rattle.list_spec.proofs.laws.Counts.{record_beyond}
 use Rattle.list_cursor.specs.Cursors.{first_cursor, Located}
-use Rattle.list_cursor.specs.laws.Walk.{located_first}
+use Rattle.list_cursor.proofs.laws.Walk.{located_first}
 
 -- by the verdict of the check
 

@@ -16,7 +16,7 @@ use Rattle.iff_tree.specs.declared.Verdict.TheVariants.{Accepted, Refused as Ver
 use Rattle.iff_grammar.specs.Words.{Bytes}
 use Rattle.list_spec.specs.Records.{records_of}
 use Rattle.list_spec.proofs.laws.Counts.{length_records}
-use Rattle.list_cursor.specs.laws.Walk.{located_first}
+use Rattle.list_cursor.proofs.laws.Walk.{located_first}
 use Rattle.list_capacity.specs.Capacity.{records_in, records_for, answer_of, to_put, Ready}
 
 module _ (s : List ℕ) (v : Verdict) (d : v ≡ check_of s) where

@@ -16,7 +16,7 @@ use Rattle.list_spec.specs.declared.Listed.TheVariants.{Chunk as Listed-chunk}
 use Rattle.list_spec.specs.Records.{record_of, count_of}
 use Rattle.list_cursor.specs.declared.Cursor.{Cursor}
 use Rattle.list_cursor.specs.Cursors.{name_at, record_at, open_level, entered, passed, group_at, onward_at, Enterable, Passable, Lies, Located}
-use Rattle.list_cursor.specs.laws.Walk.{located_record, located_header, located_type, located_enterable, located_passable, located_onward, onward_number}
+use Rattle.list_cursor.proofs.laws.Walk.{located_record, located_header, located_type, located_enterable, located_passable, located_onward, onward_number}
 
 -- groups that end at a place
 

@@ -1,1 +1,2 @@
 pub mod CursorLaws
+pub mod laws

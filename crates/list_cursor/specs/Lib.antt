@@ -1,2 +1,1 @@
 pub mod Cursors
-pub mod laws

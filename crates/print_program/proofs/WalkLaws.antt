@@ -10,7 +10,7 @@ use Rattle.iff_grammar.specs.Words.{Bytes}
 use Rattle.list_spec.specs.Records.{record_of, count_in, count_of}
 use Rattle.list_cursor.specs.declared.Cursor.{Cursor}
 use Rattle.list_cursor.specs.Cursors.{first_cursor, Located}
-use Rattle.list_cursor.specs.laws.Walk.{located_first}
+use Rattle.list_cursor.proofs.laws.Walk.{located_first}
 use Rattle.print_listing.specs.Lines.{answer_lines, listed_lines, lines_from, printed}
 use Rattle.print_program.proofs.KnownBytes.{appends_none, appends_both}
 

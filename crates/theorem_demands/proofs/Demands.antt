@@ -16,7 +16,7 @@ use Rattle.list_reader.specs.Agree.{place_before}
 use Rattle.list_reader.proofs.laws.Agree as Reader
 use Rattle.byterun_row.specs.Packing.{Packs}
 use Rattle.byterun_pack.specs.Pack.{packed, most_for}
-use Rattle.byterun_pack.specs.laws.Packed as Packing
+use Rattle.byterun_pack.proofs.laws.Packed as Packing
 use Rattle.ilbm_spec.specs.declared.BitmapHeader.{BitmapHeader}
 use Rattle.ilbm_spec.specs.declared.TableAnswer.TheVariants.{Pictures}
 use Rattle.ilbm_spec.specs.Table.{table_of, table_answer, table_after}

@@ -7,7 +7,7 @@ use native.Mathlib.Nat.{pow-suc}
 use native.Mathlib.Numerals.{add-one}
 use native.Mathlib.Omega.{arith}
 use Rattle.byterun_pack.specs.Written.{written_row}
-use Rattle.byterun_pack.specs.laws.Written.{written_short}
+use Rattle.byterun_pack.proofs.laws.Written.{written_short}
 use Rattle.write_plane_row.specs.Planes.{plane_row}
 use Rattle.write_body.specs.Body.{line_rows}
 use Rattle.write_plane_row.proofs.Buffers.{Split}

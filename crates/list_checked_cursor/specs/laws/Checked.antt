@@ -6,7 +6,7 @@ use Rattle.iff_chunk.specs.Chunks.{word}
 use Rattle.list_spec.specs.Records.{count_of}
 use Rattle.list_cursor.specs.declared.Cursor.{Cursor}
 use Rattle.list_cursor.specs.Cursors.{group_at, Lies, Located}
-use Rattle.list_cursor.specs.laws.Walk.{located_header, located_type, located_end, located_enterable, located_past, located_passable}
+use Rattle.list_cursor.proofs.laws.Walk.{located_header, located_type, located_end, located_enterable, located_past, located_passable}
 use Rattle.list_checked_cursor.specs.Checked.{group_lies, plain_lies, kind_lies, lies_at}
 
 -- a test that holds, before others that hold

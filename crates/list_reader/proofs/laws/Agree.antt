@@ -14,7 +14,7 @@ use Rattle.list_spec.specs.Records.{records_of, pick_record, record_in, record_o
 use Rattle.list_spec.proofs.laws.Counts.{length_records, refused_record, record_beyond}
 use Rattle.list_cursor.specs.declared.Cursor.{Cursor}
 use Rattle.list_cursor.specs.Cursors.{record_at, onward_at}
-use Rattle.list_cursor.specs.laws.Walk.{located_record, located_place, located_first, located_onward, onward_number}
+use Rattle.list_cursor.proofs.laws.Walk.{located_record, located_place, located_first, located_onward, onward_number}
 use Rattle.list_checked_cursor.specs.Checked.{lies_at, read_at, moved_at}
 use Rattle.list_checked_cursor.specs.laws.Checked.{located_lies}
 use Rattle.list_capacity.specs.Capacity.{records_for}

@@ -8,7 +8,7 @@ use mathlib.Core.List.{List, [], ◌∷◌, ◌++◌, append_assoc, append-nil}
 use Rattle.std.proofs.Math.ListN.{length, length-append, take-append-drop}
 use Rattle.byterun_row.specs.ByteRun.{filled, row_of}
 use Rattle.byterun_pack.specs.Written.{written_row}
-use Rattle.byterun_pack.specs.laws.Written.{written_reads}
+use Rattle.byterun_pack.proofs.laws.Written.{written_reads}
 use Rattle.iff_tree.specs.Judge.{found}
 use Rattle.ilbm_spec.specs.declared.BitmapHeader.{BitmapHeader}
 use Rattle.ilbm_spec.specs.Rows.{row_length, mask_rows, rows_in_line, Read, rows_from, Pixels, lines_with}

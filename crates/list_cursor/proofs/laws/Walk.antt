@@ -17,7 +17,7 @@ use Rattle.list_spec.specs.Records.{records_from, records_of, record_of, count_o
 use Rattle.list_spec.proofs.laws.Counts.{length_records}
 use Rattle.list_cursor.specs.declared.Cursor.{Cursor}
 use Rattle.list_cursor.specs.Cursors.{first_cursor, record_at, entered, passed, group_at, onward_at, Enterable, Passable, Ready, Stands, Located}
-use Rattle.list_cursor.specs.laws.Steps.{Settled, settle, leaf_room, leaf_past, leaf_kind, leaf_record, leaf_step, group_room, group_end, group_slot, group_kind, group_record, group_step}
+use Rattle.list_cursor.proofs.laws.Steps.{Settled, settle, leaf_room, leaf_past, leaf_kind, leaf_record, leaf_step, group_room, group_end, group_slot, group_kind, group_record, group_step}
 
 clash : (P : Type 0) (b : Bool) → b ≡ true → b ≡ false → P
 clash P b e f = let z : ◌≡◌ {A = ℕ} 0 1 = cc in absurd (omega arith)

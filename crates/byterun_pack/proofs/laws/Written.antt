@@ -5,7 +5,7 @@ use Rattle.iff_name.specs.Name.{pick}
 use Rattle.byterun_row.specs.ByteRun.{filled, plain_row, unpack_row, row_of}
 use Rattle.byterun_row.proofs.laws.Packing.{plain_stands, packs_unpack}
 use Rattle.byterun_pack.specs.Pack.{packed, most_for}
-use Rattle.byterun_pack.specs.laws.Packed.{packed_unpacks, packed_short}
+use Rattle.byterun_pack.proofs.laws.Packed.{packed_unpacks, packed_short}
 use Rattle.byterun_pack.specs.Written.{written_row}
 
 -- from any place in any BODY it is read as the row, and the next row starts where it ends

@@ -4,7 +4,7 @@ use Rattle.std.proofs.Common.{length-drop, arith}
 use Rattle.byterun_row.proofs.laws.Bytes.{Bytes, bytes_none, bytes_cons, bytes_at, bytes_append, bytes_take, bytes_drop}
 use Rattle.byterun_pieces.specs.Pieces.{piece_of}
 use Rattle.byterun_pack.specs.Pack.{on_piece, packed}
-use Rattle.byterun_pack.specs.laws.Packed.{Taken, piece_taken, packed_none, packed_step}
+use Rattle.byterun_pack.proofs.laws.Packed.{Taken, piece_taken, packed_none, packed_step}
 use Rattle.byterun_pieces.specs.declared.Piece.{Piece}
 use Rattle.byterun_pieces.specs.declared.Piece.TheVariants.{Repeat, Literal}
 
