@@ -35,42 +35,7 @@ pub fn copy_eight(src: &[u8], from: usize, dst: &mut [u8], at: usize)
     requires at_in_bounds { at + 8 ≤ length dst.old }
     ensures { dst.new ≡ paste dst.old at (drop from src.now) 8 }
 {
-    let a = src[from];
-    let b = src[from + 1];
-    let c = src[from + 2];
-    let d = src[from + 3];
-    let e = src[from + 4];
-    let f = src[from + 5];
-    let g = src[from + 6];
-    let h = src[from + 7];
-    put_eight(dst, at, a, b, c, d, e, f, g, h);
-}
-
-// Copies the bytes of a run by eights, and tells how many it has copied.
-fn copy_eights(src: &[u8], from: usize, dst: &mut [u8], at: usize, count: usize) -> usize
-    requires count_in_bounds { from + count ≤ length src.now }
-    requires count_in_bounds_2 { at + count ≤ length dst.old }
-    ensures { (result ≤ count) × (dst.new ≡ paste dst.old at (drop from src.now) result) }
-{
-    let mut k = 0;
-    while 8 <= count - k {
-        copy_eight(src, from + k, dst, at + k);
-        k += 8;
-    }
-    k
-}
-
-// Copies the bytes of a run one by one.
-fn copy_ones(src: &[u8], from: usize, dst: &mut [u8], at: usize, count: usize)
-    requires count_in_bounds { from + count ≤ length src.now }
-    requires count_in_bounds_2 { at + count ≤ length dst.old }
-    ensures { dst.new ≡ paste dst.old at (drop from src.now) count }
-{
-    let mut k = 0;
-    while k < count {
-        dst[at + k] = src[from + k];
-        k += 1;
-    }
+    copy_run(src, from, dst, at, 8);
 }
 
 // Copies count bytes of src, from `from` on, into dst, from `at` on.
@@ -79,8 +44,7 @@ pub fn copy_run(src: &[u8], from: usize, dst: &mut [u8], at: usize, count: usize
     requires count_in_bounds_2 { at + count ≤ length dst.old }
     ensures { dst.new ≡ paste dst.old at (drop from src.now) count }
 {
-    let k = copy_eights(src, from, dst, at, count);
-    copy_ones(src, from + k, dst, at + k, count - k);
+    dst[at..at + count].copy_from_slice(&src[from..from + count]);
 }
 
 // Writes times bytes b into dst, from `at` on.
@@ -88,9 +52,5 @@ pub fn fill_run(dst: &mut [u8], at: usize, times: usize, b: u8)
     requires { at + times ≤ length dst.old }
     ensures { dst.new ≡ paste dst.old at (replicate times b) times }
 {
-    let mut k = 0;
-    while k < times {
-        dst[at + k] = b;
-        k += 1;
-    }
+    dst[at..at + times].fill(b);
 }

@@ -1,15 +1,14 @@
 -- One law for each way through a turn of the loops over the pieces of a row: a turn takes one piece, which `packed_step` says of the
 -- definition, and what it writes is pasted after what stands there.
 use Prim.Native.Nat.{ℕ, ◌+◌, ◌-◌, ◌*◌, ◌^◌, ◌<◌, ◌≤◌}
-use mathlib.Core.Path.{◌≡◌, refl, sym, ap, ◌∙◌}
+use mathlib.Core.Path.{◌≡◌, refl, sym, ◌∙◌}
 use mathlib.Core.List.{List, [], ◌∷◌, ◌++◌, append_assoc, append-nil}
 use mathlib.Core.Bool.{Bool, true, false}
-use lib.ListN.{length, get_or, take, drop, set, length-append, length-drop, take-append-drop}
-use lib.Seq.{paste, length-paste, take-paste, drop-paste, drop-drop, sets-eq, take-suc-set, drop-set-lt, take-take, take_all, length-take-le}
+use lib.ListN.{length, get_or, take, drop, length-append, length-drop, take-append-drop}
+use lib.Seq.{paste, length-paste, take-paste, drop-paste, drop-drop, take_all, length-take-le}
 use mir.Syntax.{w64}
 use mir.Val.{Fits}
 use native.Mathlib.Omega.{arith}
-use native.Mathlib.Numerals.{add-one, one-add}
 use Rattle.byterun_pieces.specs.Pieces.{three, same_for, plain_for, piece_of}
 use Rattle.byterun_pack.specs.Pack.{on_piece, packed}
 use Rattle.byterun_pack.proofs.laws.Packed.{Taken, piece_taken, packed_none, packed_step}
@@ -37,9 +36,6 @@ module _ (row : List ℕ) (i : ℕ) (r : Piece) (is : r ≡ piece_of (drop i row
     pub repeat_less : length row - (i + k) < length row - i
     repeat_less = let u = taken (Repeat k) e in omega arith
 
-    repeat-total-fits : (total : ℕ) → total ≤ i + i → length row * 1 < 2 ^ 63 → Fits w64 (total + 2)
-    repeat-total-fits total t b = let u = taken (Repeat k) e in let l = left in omega arith
-
     repeat-counted :
         (total v : ℕ) → total ≤ i + i → total + length (packed (drop i row)) ≡ v →
         (i + k ≤ length row) × (total + 2 ≤ i + k + (i + k)) × (total + 2 + length (packed (drop (i + k) row)) ≡ v)
@@ -60,15 +56,15 @@ module _ (row : List ℕ) (i : ℕ) (r : Piece) (is : r ≡ piece_of (drop i row
     pub literal_less : length row - (i + k) < length row - i
     literal_less = let u = taken (Literal k) e in omega arith
 
-    literal-code-fits : (total : ℕ) → total ≤ i + i → length row * 1 < 2 ^ 63 → Fits w64 (total + 1)
-    literal-code-fits total t b = let u = taken (Literal k) e in let l = left in omega arith
+    pub literal_with_code_fits : Fits w64 (1 + k)
+    literal_with_code_fits = let u = taken (Literal k) e in omega arith
 
-    literal-total-fits : (total : ℕ) → total ≤ i + i → length row * 1 < 2 ^ 63 → Fits w64 (total + 1 + k)
+    literal-total-fits : (total : ℕ) → total ≤ i + i → length row * 1 < 2 ^ 63 → Fits w64 (total + (1 + k))
     literal-total-fits total t b = let u = taken (Literal k) e in let l = left in omega arith
 
     literal-counted :
         (total v : ℕ) → total ≤ i + i → total + length (packed (drop i row)) ≡ v →
-        (i + k ≤ length row) × (total + 1 + k ≤ i + k + (i + k)) × (total + 1 + k + length (packed (drop (i + k) row)) ≡ v)
+        (i + k ≤ length row) × (total + (1 + k) ≤ i + k + (i + k)) × (total + (1 + k) + length (packed (drop (i + k) row)) ≡ v)
     literal-counted total v t w =
         let u = taken (Literal k) e in let l = left in let z = rw (copied, length-append, long) at w in
         (omega arith, omega arith, omega arith)
@@ -82,9 +78,6 @@ module _ (row : List ℕ) (i : ℕ) (t : Bool) (is : t ≡ three (drop i row)) (
     pub same_less : length row - (i + k) < length row - i
     same_less = repeat_less row i (Repeat k) (piece_repeat row i k t is e n) h k refl
 
-    pub same_total_fits : (total : ℕ) → total ≤ i + i → length row * 1 < 2 ^ 63 → Fits w64 (total + 2)
-    same_total_fits = repeat-total-fits row i (Repeat k) (piece_repeat row i k t is e n) h k refl
-
     pub same_counted :
         (total v : ℕ) → total ≤ i + i → total + length (packed (drop i row)) ≡ v →
         (i + k ≤ length row) × (total + 2 ≤ i + k + (i + k)) × (total + 2 + length (packed (drop (i + k) row)) ≡ v)
@@ -97,37 +90,21 @@ module _ (row : List ℕ) (i : ℕ) (t : Bool) (is : t ≡ three (drop i row)) (
     pub plain_less : length row - (i + k) < length row - i
     plain_less = literal_less row i (Literal k) (piece_literal row i k t is e n) h k refl
 
-    pub plain_code_fits : (total : ℕ) → total ≤ i + i → length row * 1 < 2 ^ 63 → Fits w64 (total + 1)
-    plain_code_fits = literal-code-fits row i (Literal k) (piece_literal row i k t is e n) h k refl
+    pub plain_with_code_fits : Fits w64 (1 + k)
+    plain_with_code_fits = literal_with_code_fits row i (Literal k) (piece_literal row i k t is e n) h k refl
 
-    pub plain_total_fits : (total : ℕ) → total ≤ i + i → length row * 1 < 2 ^ 63 → Fits w64 (total + 1 + k)
+    pub plain_total_fits : (total : ℕ) → total ≤ i + i → length row * 1 < 2 ^ 63 → Fits w64 (total + (1 + k))
     plain_total_fits = literal-total-fits row i (Literal k) (piece_literal row i k t is e n) h k refl
 
     pub plain_counted :
         (total v : ℕ) → total ≤ i + i → total + length (packed (drop i row)) ≡ v →
-        (i + k ≤ length row) × (total + 1 + k ≤ i + k + (i + k)) × (total + 1 + k + length (packed (drop (i + k) row)) ≡ v)
+        (i + k ≤ length row) × (total + (1 + k) ≤ i + k + (i + k)) × (total + (1 + k) + length (packed (drop (i + k) row)) ≡ v)
     plain_counted = literal-counted row i (Literal k) (piece_literal row i k t is e n) h k refl
-
-pub count_starts : (row : List ℕ) → 0 + length (packed (drop 0 row)) ≡ length (packed row)
-count_starts row = omega arith
 
 pub count_ends : (row : List ℕ) (i total v : ℕ) → length row ≤ i → total + length (packed (drop i row)) ≡ v → total ≡ v
 count_ends row i total v h w = let z = rw (packed_none (drop i row) (rw length-drop (omega arith))) at w in omega arith
 
 -- ---- what is written
-
--- two stores, and a store with a copy after it, are one paste
-pub pasted_repeat : (d : List ℕ) (at a b : ℕ) → at + 2 ≤ length d → set (set d at a) (at + 1) b ≡ paste d at (a ∷ b ∷ []) 2
-pasted_repeat d at a b h = rw (add-one at) (sets-eq (a ∷ b ∷ []) d at h)
-
-pub pasted_literal :
-    (d d' s : List ℕ) (at a k : ℕ) → at + 1 + k ≤ length d → d' ≡ paste (set d at a) (at + 1) s k → d' ≡ paste d at (a ∷ take k s) (1 + k)
-pasted_literal d d' s at a k h e =
-    let t : take (at + 1) (set d at a) ≡ take at d ++ (a ∷ []) = rw add-one (take-suc-set d at a (omega arith)) in
-    let r : drop (at + 1 + k) (set d at a) ≡ drop (at + (1 + k)) d =
-    drop-set-lt (at + 1 + k) d at a (omega arith) ∙ (let z : at + 1 + k ≡ at + (1 + k) = omega arith in ap (λ (n : ℕ). drop n d) z) in
-    let w : take (1 + k) (a ∷ take k s) ≡ a ∷ take k s = rw (one-add k) (ap (λ (l : List ℕ). a ∷ l) (take-take k k s (omega arith))) in
-    rw (e, t, r, w, append_assoc (take at d) (a ∷ []) (take k s))
 
 -- the bytes `s` of a piece, pasted at the end of what is written
 module _ (out out' s rest left v : List ℕ) (at m : ℕ) (a : length s ≡ m) (b : left ≡ s ++ rest) (c : out' ≡ paste out at s m) (d : at + length left ≡ length v) (f : length v ≤ length out) where
@@ -156,9 +133,6 @@ module _ (row : List ℕ) (i : ℕ) (r : Piece) (is : r ≡ piece_of (drop i row
     pub repeat_room : (2 ≤ k) × (k ≤ 128) × (at + 2 ≤ length out)
     repeat_room = let u = taken row i r is h (Repeat k) e in let z = ahead in (omega arith, u.1, omega arith)
 
-    pub repeat_at_fits : n < 2 ^ 64 → Fits w64 (at + 2)
-    repeat_at_fits b = let z = ahead in omega arith
-
     pub repeat_put :
         (out' w : List ℕ) → out' ≡ paste out at ((257 - k) ∷ get_or row i 0 ∷ []) 2 → take at out ++ packed (drop i row) ≡ v → drop (length v) out ≡ w →
         (i + k ≤ length row) × (length out' ≡ n) × (at + 2 + length (packed (drop (i + k) row)) ≡ length v) × (take (at + 2) out' ++ packed (drop (i + k) row) ≡ v) × (drop (length v) out' ≡ w)
@@ -181,23 +155,18 @@ module _ (row : List ℕ) (i : ℕ) (r : Piece) (is : r ≡ piece_of (drop i row
     pub literal_room : (1 ≤ k) × (k ≤ 128) × (i + k ≤ length row) × (at + 1 + k ≤ length out)
     literal_room = let u = taken row i r is h (Literal k) e in let l = left row i r is h in let z = beyond in (u.0, u.1, omega arith, omega arith)
 
-    pub literal_at_code_fits : n < 2 ^ 64 → Fits w64 (at + 1)
-    literal_at_code_fits b = let z = beyond in omega arith
-
-    pub literal_at_fits : n < 2 ^ 64 → Fits w64 (at + 1 + k)
+    pub literal_at_fits : n < 2 ^ 64 → Fits w64 (at + (1 + k))
     literal_at_fits b = let z = beyond in omega arith
 
     pub literal_put :
         (out' w : List ℕ) → out' ≡ paste out at ((k - 1) ∷ take k (drop i row)) (1 + k) → take at out ++ packed (drop i row) ≡ v → drop (length v) out ≡ w →
-        (i + k ≤ length row) × (length out' ≡ n) × (at + 1 + k + length (packed (drop (i + k) row)) ≡ length v) × (take (at + 1 + k) out' ++ packed (drop (i + k) row) ≡ v) × (drop (length v) out' ≡ w)
+        (i + k ≤ length row) × (length out' ≡ n) × (at + (1 + k) + length (packed (drop (i + k) row)) ≡ length v) × (take (at + (1 + k)) out' ++ packed (drop (i + k) row) ≡ v) × (drop (length v) out' ≡ w)
     literal_put out' w c f g =
         let s : List ℕ = (k - 1) ∷ take k (drop i row) in
         let u = taken row i r is h (Literal k) e in let l = left row i r is h in
         let p = copied row i r is h k e in
         let m : length s ≡ 1 + k = let z = long row i r is h k e in omega arith in
-        let y : at + 1 + k ≡ at + (1 + k) = omega arith in
-        let q = put_length out out' s (packed (drop (i + k) row)) (packed (drop i row)) v at (1 + k) m p c d (omega arith) in
-        rw y (
+        let q = put_length out out' s (packed (drop (i + k) row)) (packed (drop i row)) v at (1 + k) m p c d (omega arith) in (
           omega arith,
           q ∙ same,
           sized out out' s (packed (drop (i + k) row)) (packed (drop i row)) v at (1 + k) m p c d (omega arith),

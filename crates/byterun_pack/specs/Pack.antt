@@ -4,8 +4,10 @@ use Rattle.iff_name.specs.Name.{pick}
 use Rattle.byterun_pieces.specs.declared.Piece.{Piece}
 use Rattle.byterun_pieces.specs.declared.Piece.TheVariants.{Repeat, Literal}
 use Rattle.byterun_pieces.specs.Pieces.{piece_of}
-use Rattle.byterun_pack.specs.declared.PackAnswer.{PackAnswer}
-use Rattle.byterun_pack.specs.declared.PackAnswer.TheVariants.{Written, BadLength, NoRoom}
+use Rattle.iff_refusal.specs.declared.Reason.TheVariants.{RowLength, NoRoom}
+use Rattle.iff_refusal.specs.declared.Reason.{Reason}
+use Rattle.iff_refusal.specs.Numbers.{number_of}
+use Rattle.std.specs.Prelude.{Ok, Err, Result}
 
 -- a piece written, and what is left of the row packed after it
 abbrev pub on_piece : List ℕ → (List ℕ → List ℕ) → Piece → List ℕ
@@ -22,28 +24,25 @@ unfoldable pub packed : List ℕ → List ℕ
 packed row = pack_by (length row) row
 
 -- 31 for a row of no bytes or of more than 8,192; 32 if the result is longer than the room; else the result's length
-abbrev pub pack_of : List ℕ → ℕ → PackAnswer
+abbrev pub pack_of : List ℕ → ℕ → Result ℕ Reason
 pack_of row room =
-    pick (eqb (length row) 0) BadLength
-    (pick (ltb 8192 (length row)) BadLength
-    (pick (ltb room (length (packed row))) NoRoom (Written (length (packed row)))))
+    pick (eqb (length row) 0) (Err RowLength)
+    (pick (ltb 8192 (length row)) (Err RowLength)
+    (pick (ltb room (length (packed row))) (Err NoRoom) (Ok (length (packed row)))))
 
 -- the buffer after an answer: the packed row and what stood after it, or as it was
-abbrev pub out_after : PackAnswer → List ℕ → List ℕ → List ℕ
-out_after (Written k) row out = packed row ++ drop k out
-out_after BadLength row out = out
-out_after NoRoom row out = out
+abbrev pub out_after : Result ℕ Reason → List ℕ → List ℕ → List ℕ
+out_after (Ok k) row out = packed row ++ drop k out
+out_after (Err k) row out = out
 
 -- the number of an answer, and the length that it tells
-abbrev pub pack_number : PackAnswer → ℕ
-pack_number (Written k) = 0
-pack_number BadLength = 31
-pack_number NoRoom = 32
+abbrev pub pack_number : Result ℕ Reason → ℕ
+pack_number (Ok k) = 0
+pack_number (Err k) = number_of k
 
-abbrev pub length_of : PackAnswer → ℕ
-length_of (Written k) = k
-length_of BadLength = 0
-length_of NoRoom = 0
+abbrev pub length_of : Result ℕ Reason → ℕ
+length_of (Ok k) = k
+length_of (Err k) = 0
 
 -- "a packed row grows by at most one byte per started 128": the most bytes for a row of n
 abbrev pub most_for : ℕ → ℕ

@@ -6,14 +6,7 @@ ghost use Rattle.std.proofs.Math.Seq.{paste};
 ghost use Rattle.byterun_pack.specs.Pack.{packed, pack_of, out_after};
 
 use byterun_pieces::{Piece, piece_at, plain_at, same_at, three_at};
-
-// The length of the packed row; a row of no bytes or of more than 8,192; a result longer than the buffer.
-#[derive(Clone, Copy)]
-pub enum PackAnswer {
-    Written(usize),
-    BadLength,
-    NoRoom,
-}
+use iff_refusal::Reason;
 
 // The length of the packed row. It counts without `piece_at`, which has one caller and so is compiled into its loop.
 pub fn packed_len(row: &[u8]) -> usize
@@ -24,12 +17,12 @@ pub fn packed_len(row: &[u8]) -> usize
     while i < row.len() {
         if three_at(row, i) {
             let count = same_at(row, i, row[i]);
-            i = i + count;
-            total = total + 2;
+            i += count;
+            total += 2;
         } else {
             let count = plain_at(row, i);
-            i = i + count;
-            total = total + 1 + count;
+            i += count;
+            total += 1 + count;
         }
     }
     total
@@ -64,17 +57,16 @@ pub fn pack_into(row: &[u8], out: &mut [u8]) -> usize
     let mut from = 0;
     let mut at = 0;
     while from < row.len() {
-        let piece = piece_at(row, from);
-        match piece {
+        match piece_at(row, from) {
             Piece::Repeat(count) => {
                 put_repeat(out, at, count, row[from]);
-                from = from + count;
-                at = at + 2;
+                from += count;
+                at += 2;
             }
             Piece::Literal(count) => {
                 put_literal(out, at, row, from, count);
-                from = from + count;
-                at = at + 1 + count;
+                from += count;
+                at += 1 + count;
             }
         }
     }
@@ -94,19 +86,19 @@ fn lacks_room(row: &[u8], room: usize) -> bool
 }
 
 // Packs a row of 1 to 8,192 bytes into out; bytes after the result stay, and a refusal changes nothing.
-pub fn pack_row(row: &[u8], out: &mut [u8]) -> PackAnswer
+pub fn pack_row(row: &[u8], out: &mut [u8]) -> Result<usize, Reason>
     ensures is { result ≡ pack_of row.now (length out.old) }
     ensures bytes { out.new ≡ out_after (pack_of row.now (length out.old)) row.now out.old }
 {
     let n = row.len();
     if n == 0 {
-        return PackAnswer::BadLength;
+        return Err(Reason::RowLength);
     }
     if 8192 < n {
-        return PackAnswer::BadLength;
+        return Err(Reason::RowLength);
     }
     if lacks_room(row, out.len()) {
-        return PackAnswer::NoRoom;
+        return Err(Reason::NoRoom);
     }
-    PackAnswer::Written(pack_into(row, out))
+    Ok(pack_into(row, out))
 }

@@ -1,16 +1,19 @@
--- One law for each way through the functions that look for the next piece: a turn of a loop steps over one byte of the definition.
+-- One law for each way through the functions that look for the next piece: a turn of the literal's loop steps over one or two bytes of
+-- the definition.
 use Prim.Native.Nat.{ℕ, zero, suc, ◌+◌, ◌-◌, ◌<◌, ◌≤◌}
 use mathlib.Core.Path.{◌≡◌, refl, sym, ap, ◌∙◌}
 use mathlib.Core.List.{List, [], ◌∷◌}
-use mathlib.Core.Bool.{Bool, true, false}
-use lib.ListN.{length, get_or, drop, length-drop}
-use lib.Seq.{get_or-drop, drop-drop}
+use mathlib.Core.Bool.{Bool, true, false, cond}
+use lib.ListN.{length, get_or, take, drop, length-drop}
+use lib.Seq.{get_or-drop, drop-drop, take_all}
 use lib.Dec.{ltb, eqb}
-use borrow.Author.Tests.{eq-eqb, ne_eqb, eqb-true, ltb-true, ltb-false}
+use borrow.Author.Tests.{eq-eqb, ne_eqb, ltb-true, ltb-false}
 use native.Mathlib.Omega.{arith}
 use native.Mathlib.Nat.{add-zero}
+use Rattle.std.specs.Prelude.{◌==◌}
+use Rattle.std.specs.List.{prefix_len, take_while, between}
 use Rattle.iff_name.specs.Name.{pick}
-use Rattle.byterun_pieces.specs.Pieces.{three, Four, same_for, plain_for, piece_of}
+use Rattle.byterun_pieces.specs.Pieces.{three, same_for, plain_for, piece_of}
 use Rattle.byterun_pieces.specs.declared.Piece.TheVariants.{Repeat, Literal}
 
 pub first : (row : List ℕ) (i : ℕ) → get_or (drop i row) 0 0 ≡ get_or row i 0
@@ -51,22 +54,45 @@ module _ (row : List ℕ) (i : ℕ) where
 
 pub ruleset threes = (three_few, three_same, three_other)
 
--- ---- the lengths of a repeat and of a literal
+-- ---- the length of a repeat
 
-same_cons : (m b : ℕ) (xs : List ℕ) → 0 < length xs → same_for (suc m) b xs ≡ pick (eqb (get_or xs 0 0) b) (suc (same_for m b (drop 1 xs))) 0
+pub same_is : (m b : ℕ) (xs : List ℕ) → length (take_while (λ x. x == b) (take m xs)) ≡ same_for m b xs
 unfolding same_for
-same_cons m b [] h = absurd (omega arith)
-same_cons m b (x ∷ xs) h = refl
+same_is zero b xs = refl
+same_is (suc m) b [] = refl
+same_is (suc m) b (x ∷ xs) = go (same_is m b xs) (eqb x b)
+  where
+    go :
+        length (take_while (λ x. x == b) (take m xs)) ≡ same_for m b xs → (t : Bool) →
+        length (take (cond t (1 + prefix_len (λ x. x == b) (take m xs)) 0) (x ∷ take m xs)) ≡ pick t (suc (same_for m b xs)) 0
+    go h true =
+        let n : ℕ = prefix_len (λ x. x == b) (take m xs) in
+        let e : 1 + n ≡ suc n = omega arith in
+        rw e (ap suc h)
+    go h false = refl
 
-same_nil : (m b : ℕ) (xs : List ℕ) → length xs ≡ 0 → same_for m b xs ≡ 0
-unfolding same_for
-same_nil zero b xs h = refl
-same_nil (suc m) b [] h = refl
-same_nil (suc m) b (x ∷ xs) h = absurd (omega arith)
+-- the lesser of what is left and 128 bytes
+most_taken :
+    (m n : ℕ) (xs : List ℕ) → n ≡ length xs → (m ≤ 128) × (m ≤ n) × (n < 128 → m ≡ n) × (128 ≤ n → m ≡ 128) → take m xs ≡ take 128 xs
+most_taken m n xs e w = go (ltb n 128) refl
+  where
+    go : (t : Bool) → ltb n 128 ≡ t → take m xs ≡ take 128 xs
+    go true i =
+        let h = ltb-true n 128 i in
+        let l = w.2 h in
+        take_all m xs (omega arith) ∙ sym (take_all 128 xs (omega arith))
+    go false i = let l = w.3 (ltb-false n 128 i) in ap (λ (k : ℕ). take k xs) l
 
-same_zero : (b : ℕ) (xs : List ℕ) → same_for 0 b xs ≡ 0
-unfolding same_for
-same_zero b xs = refl
+pub same_counted :
+    (row : List ℕ) (i b m r : ℕ) →
+    (m ≤ 128) × (m ≤ length row - i) × (length row - i < 128 → m ≡ length row - i) × (128 ≤ length row - i → m ≡ 128) →
+    r ≡ length (take_while (λ x. x == b) (between i (i + m) row)) → r ≡ same_for 128 b (drop i row)
+same_counted row i b m r w e =
+    let n : i + m - i ≡ m = omega arith in
+    let t : take m (drop i row) ≡ take 128 (drop i row) = most_taken m (length row - i) (drop i row) (sym (length-drop i row)) w in
+    e ∙ rw (n, t) (same_is 128 b (drop i row))
+
+-- ---- the length of a literal
 
 plain_cons : (m : ℕ) (xs : List ℕ) → 0 < length xs → plain_for (suc m) xs ≡ pick (three xs) 0 (suc (plain_for m (drop 1 xs)))
 unfolding plain_for
@@ -109,30 +135,6 @@ module _ (row : List ℕ) (i k : ℕ) where
   one_more : drop 1 (drop (i + k) row) ≡ drop (i + (k + 1)) row
   one_more = let e : i + k + 1 ≡ i + (k + 1) = omega arith in drop-drop 1 (i + k) row ∙ ap (λ (n : ℕ). drop n row) e
 
-  same_starts : (b : ℕ) → 0 + same_for (128 - 0) b (drop (i + 0) row) ≡ same_for 128 b (drop i row)
-  same_starts b = let e : 0 + same_for 128 b (drop i row) ≡ same_for 128 b (drop i row) = omega arith in rw (add-zero i) e
-
-  pub plain_starts : 0 + plain_for (128 - 0) (drop (i + 0) row) ≡ plain_for 128 (drop i row)
-  plain_starts = let e : 0 + plain_for 128 (drop i row) ≡ plain_for 128 (drop i row) = omega arith in rw (add-zero i) e
-
-  module _ (b v : ℕ) (u : k + same_for (128 - k) b (drop (i + k) row) ≡ v) where
-    pub same_out : length row - i ≤ k → k ≡ v
-    same_out h = let z = same_nil (128 - k) b (drop (i + k) row) (rw length-drop (omega arith)) in omega arith
-
-    pub same_full : 128 ≤ k → k ≤ 128 → k ≡ v
-    same_full g h = let e : 128 - k ≡ 0 = omega arith in let z = rw (e, same_zero b (drop (i + k) row)) at u in omega arith
-
-    stepped : k < 128 → k < length row - i → same_for (128 - k) b (drop (i + k) row) ≡ pick (eqb (get_or row (i + k) 0) b) (suc (same_for (128 - (k + 1)) b (drop (i + (k + 1)) row))) 0
-    stepped g h =
-        let e : 128 - k ≡ suc (128 - (k + 1)) = omega arith in
-        rw (e, same_cons (128 - (k + 1)) b (drop (i + k) row) (rw length-drop (omega arith)), first row (i + k), one_more)
-
-    pub same_stop : k < 128 → k < length row - i → (get_or row (i + k) 0 ≡ b → ⊥) → k ≡ v
-    same_stop g h e = let z = simp (ne_eqb (get_or row (i + k) 0) b e) at (stepped g h) in omega arith
-
-    pub same_more : k < 128 → k < length row - i → get_or row (i + k) 0 ≡ b → (k + 1) + same_for (128 - (k + 1)) b (drop (i + (k + 1)) row) ≡ v
-    same_more g h e = let z = simp (eq-eqb (get_or row (i + k) 0) b e) at (stepped g h) in omega arith
-
   module _ (v : ℕ) (u : k + plain_for (128 - k) (drop (i + k) row) ≡ v) where
     -- `last` places have two bytes after them
     module _ (last : ℕ) (w : (last ≤ 128) × (last ≤ length row - i - 2) × (last < 128 → length row - i - 2 ≤ last)) where
@@ -166,65 +168,6 @@ module _ (row : List ℕ) (i k : ℕ) where
                 let o = ltb-false last 128 e in
                 let n : 128 - k ≡ 0 = omega arith in
                 let z = rw (n, plain_zero (drop (i + k) row)) at u in omega arith
-
--- ---- four bytes b at once
-
-module _ (row : List ℕ) (i b : ℕ) where
-  pub four_other : false ≡ true → Four b i row
-  four_other e = let z : ◌≡◌ {A = ℕ} 0 1 = cc in absurd (omega arith)
-
-  pub four_same : get_or row i 0 ≡ b → get_or row (i + 1) 0 ≡ b → get_or row (i + 2) 0 ≡ b → eqb (get_or row (i + 3) 0) b ≡ true → Four b i row
-  four_same x y z e = (x, y, z, eqb-true (get_or row (i + 3) 0) b e)
-
-same_step :
-    (row : List ℕ) (i k m b v : ℕ) → m ≡ k + 1 → k + same_for (128 - k) b (drop (i + k) row) ≡ v → k < 128 → k < length row - i → get_or row (i + k) 0 ≡ b →
-    m + same_for (128 - m) b (drop (i + m) row) ≡ v
-same_step row i k m b v e u g h f = rw e (same_more row i k b v u g h f)
-
-pub same_four :
-    (row : List ℕ) (i k b v : ℕ) → k + same_for (128 - k) b (drop (i + k) row) ≡ v → (t : Bool) → (t ≡ true → Four b (i + k) row) →
-    (end : ℕ) → (end ≤ 128) × (end ≤ length row - i) × (length row - i < 128 → end ≡ length row - i) × (128 ≤ length row - i → end ≡ 128) → k + 4 ≤ end → t ≡ true →
-    (k + 4) + same_for (128 - (k + 4)) b (drop (i + (k + 4)) row) ≡ v
-same_four row i k b v u t f end g l e =
-    let y = f e in
-    let e1 : i + (k + 1) ≡ i + k + 1 = omega arith in
-    let e2 : i + (k + 2) ≡ i + k + 2 = omega arith in
-    let e3 : i + (k + 3) ≡ i + k + 3 = omega arith in
-    let u1 = same_step row i k (k + 1) b v refl u (omega arith) (omega arith) y.0 in
-    let u2 = same_step row i (k + 1) (k + 2) b v (omega arith) u1 (omega arith) (omega arith) (rw e1 y.1) in
-    let u3 = same_step row i (k + 2) (k + 3) b v (omega arith) u2 (omega arith) (omega arith) (rw e2 y.2) in
-    same_step row i (k + 3) (k + 4) b v (omega arith) u3 (omega arith) (omega arith) (rw e3 y.3)
-
--- where three equal bytes start, three are passed
-
-equal_two : (a b : ℕ) (t : Bool) → pick (eqb a b) t false ≡ true → (a ≡ b) × (t ≡ true)
-equal_two a b t e = go (eqb a b) refl e
-  where
-    go : (u : Bool) → eqb a b ≡ u → pick u t false ≡ true → (a ≡ b) × (t ≡ true)
-    go true i f = (eqb-true a b i, f)
-    go false i f = let z : ◌≡◌ {A = ℕ} 0 1 = cc in absurd (omega arith)
-
-three_long : (xs : List ℕ) → three xs ≡ true → 3 ≤ length xs
-unfolding three
-three_long [] e = let z : ◌≡◌ {A = ℕ} 0 1 = cc in absurd (omega arith)
-three_long (a ∷ []) e = let z : ◌≡◌ {A = ℕ} 0 1 = cc in absurd (omega arith)
-three_long (a ∷ b ∷ []) e = let z : ◌≡◌ {A = ℕ} 0 1 = cc in absurd (omega arith)
-three_long (a ∷ b ∷ c ∷ xs) e = omega arith
-
-module _ (row : List ℕ) (i b : ℕ) (h : i ≤ length row) (e : three (drop i row) ≡ true) (f : b ≡ get_or row i 0) where
-  pub three_inside : i + 3 ≤ length row
-  three_inside = let l : 3 ≤ length row - i = rw length-drop at (three_long (drop i row) e) in omega arith
-
-  pub same_three : 3 + same_for (128 - 3) b (drop (i + 3) row) ≡ same_for 128 b (drop i row)
-  same_three =
-      let l = three_inside in
-      let y = equal_two (get_or row i 0) (get_or row (i + 1) 0) (eqb (get_or row (i + 1) 0) (get_or row (i + 2) 0)) (sym (seen row i l) ∙ e) in
-      let y2 : get_or row (i + 1) 0 ≡ get_or row (i + 2) 0 = eqb-true (get_or row (i + 1) 0) (get_or row (i + 2) 0) y.1 in
-      let y1 : get_or row i 0 ≡ get_or row (i + 1) 0 = y.0 in
-      let z : get_or row (i + 0) 0 ≡ b = rw (add-zero i) (sym f) in
-      let u1 = same_step row i 0 1 b _ refl (same_starts row i 0 b) (omega arith) (omega arith) z in
-      let u2 = same_step row i 1 2 b _ refl u1 (omega arith) (omega arith) (sym y1 ∙ sym f) in
-      same_step row i 2 3 b _ refl u2 (omega arith) (omega arith) (sym y2 ∙ (sym y1 ∙ sym f))
 
 pub three_known : (t : Bool) (xs : List ℕ) → t ≡ three xs → t ≡ true → three xs ≡ true
 three_known t xs e i = sym e ∙ i

@@ -2,8 +2,8 @@
 // start.
 #![tactic(auto)]
 
-ghost use Rattle.std.specs.Prelude.{◌≡◌, ◌+◌, ◌-◌, ◌≤◌, ◌<◌, length, get_or, drop, eqb, true};
-ghost use Rattle.byterun_pieces.specs.Pieces.{three, Four, same_for, plain_for, piece_of};
+ghost use Rattle.std.specs.Prelude.{◌≡◌, ◌==◌, ◌+◌, ◌-◌, ◌≤◌, ◌<◌, length, get_or, drop, take_while, eqb, true};
+ghost use Rattle.byterun_pieces.specs.Pieces.{three, same_for, plain_for, piece_of};
 
 // What stands at the left of a row: a repeat of so many bytes, or a literal of so many.
 #[derive(Clone, Copy)]
@@ -34,21 +34,6 @@ pub fn three_at(row: &[u8], i: usize) -> bool
     three_here(row, i)
 }
 
-// Whether the four bytes at i are b.
-fn four_here(row: &[u8], i: usize, b: u8) -> bool
-    requires { i + 4 ≤ length row.now }
-    ensures { result ≡ true → Four b i row.now }
-{
-    if row[i] == b {
-        if row[i + 1] == b {
-            if row[i + 2] == b {
-                return row[i + 3] == b;
-            }
-        }
-    }
-    false
-}
-
 // The lesser of a number and 128.
 fn most(left: usize) -> usize
     ensures { (result ≤ 128) × (result ≤ left) × (left < 128 → result ≡ left) × (128 ≤ left → result ≡ 128) }
@@ -59,21 +44,11 @@ fn most(left: usize) -> usize
     128
 }
 
-// So many bytes b stand at i, the first three of which are known, by fours.
-fn fours_at(row: &[u8], i: usize, b: u8) -> usize
-    requires { (i ≤ length row.now) × (three (drop i row.now) ≡ true) × (b ≡ get_or row.now i 0) }
-    ensures { (result ≤ 128) × (i + result ≤ length row.now) × (result + same_for (128 - result) b (drop (i + result) row.now) ≡ same_for 128 b (drop i row.now)) }
+// How many bytes b stand at the left.
+fn same_first(bytes: &[u8], b: u8) -> usize
+    ensures { result ≡ length (take_while (λ x. x == b) bytes.now) }
 {
-    let end = most(row.len() - i);
-    let mut k = 3;
-    while k + 4 <= end {
-        if four_here(row, i + k, b) {
-            k += 4;
-        } else {
-            return k;
-        }
-    }
-    k
+    bytes.iter().take_while(|x| **x == b).count()
 }
 
 // How many bytes b stand at i, where three do, at most 128.
@@ -81,17 +56,8 @@ pub fn same_at(row: &[u8], i: usize, b: u8) -> usize
     requires { (i ≤ length row.now) × (three (drop i row.now) ≡ true) × (b ≡ get_or row.now i 0) }
     ensures { result ≡ same_for 128 b (drop i row.now) }
 {
-    let mut k = fours_at(row, i, b);
-    while k < 128 {
-        if row.len() - i <= k {
-            return k;
-        }
-        if row[i + k] != b {
-            return k;
-        }
-        k += 1;
-    }
-    k
+    let end = i + most(row.len() - i);
+    same_first(&row[i..end], b)
 }
 
 // How many of 128 places have two more bytes after them, with so many bytes left.

@@ -7,7 +7,9 @@ use borrow.Author.Tests.{lt-ltb, le-ltb, le-leb, lt-leb, eq-eqb, ne_eqb}
 use native.Mathlib.Omega.{arith}
 use Rattle.byterun_row.specs.ByteRun.{code_of, plain_row, answer_of}
 use Rattle.byterun_row.specs.declared.Code.TheVariants.{Missing, Skip, Copy, Repeat, Long, Cut}
-use Rattle.byterun_row.specs.declared.RowAnswer.TheVariants.{Full, Ends}
+use Rattle.iff_refusal.specs.declared.Reason.TheVariants.{BodyEnds}
+use Rattle.iff_refusal.specs.Numbers.{refusing}
+use Rattle.std.specs.Prelude.{Ok}
 
 module _ (body : List ℕ) (i left : ℕ) where
   pub is_missing : length body ≤ i → Missing ≡ code_of body i left
@@ -45,19 +47,19 @@ module _ (body : List ℕ) (i left : ℕ) where
       is_repeat p q t = simp (lt-ltb _ _ h, ← e, ne_eqb _ _ n, le-ltb _ _ p, le-ltb _ _ q, le-ltb _ _ t)
 
 module _ (body : List ℕ) (at n : ℕ) where
-  pub plain_none : n ≡ 0 → Full at ≡ answer_of (plain_row body at n)
+  pub plain_none : n ≡ 0 → Ok at ≡ answer_of (plain_row body at n)
   unfolding plain_row
   plain_none h = let e : at + n ≡ at = omega arith in simp (le-leb n (length body - at) (omega arith), e)
 
-  pub plain_full : n ≤ length body - at → Full (at + n) ≡ answer_of (plain_row body at n)
+  pub plain_full : n ≤ length body - at → Ok (at + n) ≡ answer_of (plain_row body at n)
   unfolding plain_row
   plain_full h = simp (le-leb _ _ h)
 
-  pub plain_beyond : (n ≡ 0 → ⊥) → length body ≤ at → Ends at ≡ answer_of (plain_row body at n)
+  pub plain_beyond : (n ≡ 0 → ⊥) → length body ≤ at → refusing BodyEnds at ≡ answer_of (plain_row body at n)
   unfolding plain_row
   plain_beyond z h = simp (lt-leb n (length body - at) (omega (arith, z)))
 
-  pub plain_ends : length body - at < n → Ends at ≡ answer_of (plain_row body at n)
+  pub plain_ends : length body - at < n → refusing BodyEnds at ≡ answer_of (plain_row body at n)
   unfolding plain_row
   plain_ends h = simp (lt-leb _ _ h)
 

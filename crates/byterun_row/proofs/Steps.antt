@@ -10,8 +10,9 @@ use Rattle.byterun_row.specs.ByteRun.{Row, filled, over, short, code_of, prepend
 use Rattle.byterun_row.proofs.laws.Steps.{row_none, row_step, Within, code_within}
 use Rattle.byterun_row.specs.declared.Code.{Code}
 use Rattle.byterun_row.specs.declared.Code.TheVariants.{Missing, Skip, Copy, Repeat, Long, Cut}
-use Rattle.byterun_row.specs.declared.RowAnswer.{RowAnswer}
-use Rattle.byterun_row.specs.declared.RowAnswer.TheVariants.{Full, Oversteps, Ends}
+use Rattle.iff_refusal.specs.declared.Reason.TheVariants.{BodyEnds, RowOverstepped}
+use Rattle.iff_refusal.specs.Numbers.{Answer, refusing}
+use Rattle.std.specs.Prelude.{Ok}
 
 -- bytes put in front change no answer
 prepend_answer : (bs : List ℕ) (r : Row) → answer_of (prepend bs r) ≡ answer_of r
@@ -33,7 +34,7 @@ module _ (body : List ℕ) (i left : ℕ) (r : Code) (is : r ≡ code_of body i 
     pub skip_less : length body - (i + 1) < length body - i
     skip_less = let w = within Skip e in omega arith
 
-    pub judge_skip : (v : RowAnswer) → 0 < left → answer_of (unpack_row body i left) ≡ v → answer_of (unpack_row body (i + 1) left) ≡ v
+    pub judge_skip : (v : Answer ℕ) → 0 < left → answer_of (unpack_row body i left) ≡ v → answer_of (unpack_row body (i + 1) left) ≡ v
     judge_skip v h u = rw (stepped Skip e h) at u
 
   module _ (k : ℕ) (e : r ≡ Copy k) where
@@ -52,7 +53,7 @@ module _ (body : List ℕ) (i left : ℕ) (r : Code) (is : r ≡ code_of body i 
     pub copy_less : length body - (i + 1 + k) < length body - i
     copy_less = let w = within (Copy k) e in omega arith
 
-    pub judge_copy : (v : RowAnswer) → 0 < left → answer_of (unpack_row body i left) ≡ v → answer_of (unpack_row body (i + 1 + k) (left - k)) ≡ v
+    pub judge_copy : (v : Answer ℕ) → 0 < left → answer_of (unpack_row body i left) ≡ v → answer_of (unpack_row body (i + 1 + k) (left - k)) ≡ v
     judge_copy v h u = sym (prepend_answer (take k (drop (i + 1) body)) (unpack_row body (i + 1 + k) (left - k))) ∙ (rw (stepped (Copy k) e h) at u)
 
   module _ (b k : ℕ) (e : r ≡ Repeat b k) where
@@ -65,19 +66,19 @@ module _ (body : List ℕ) (i left : ℕ) (r : Code) (is : r ≡ code_of body i 
     pub repeat_less : length body - (i + 2) < length body - i
     repeat_less = let w = within (Repeat b k) e in omega arith
 
-    pub judge_repeat : (v : RowAnswer) → 0 < left → answer_of (unpack_row body i left) ≡ v → answer_of (unpack_row body (i + 2) (left - k)) ≡ v
+    pub judge_repeat : (v : Answer ℕ) → 0 < left → answer_of (unpack_row body i left) ≡ v → answer_of (unpack_row body (i + 2) (left - k)) ≡ v
     judge_repeat v h u = sym (prepend_answer (replicate k b) (unpack_row body (i + 2) (left - k))) ∙ (rw (stepped (Repeat b k) e h) at u)
 
-  pub judge_missing : (v : RowAnswer) → r ≡ Missing → 0 < left → answer_of (unpack_row body i left) ≡ v → Ends (length body) ≡ v
+  pub judge_missing : (v : Answer ℕ) → r ≡ Missing → 0 < left → answer_of (unpack_row body i left) ≡ v → refusing BodyEnds (length body) ≡ v
   judge_missing v e h u = rw (stepped Missing e h) at u
 
-  pub judge_long : (v : RowAnswer) → r ≡ Long → 0 < left → answer_of (unpack_row body i left) ≡ v → Oversteps i ≡ v
+  pub judge_long : (v : Answer ℕ) → r ≡ Long → 0 < left → answer_of (unpack_row body i left) ≡ v → refusing RowOverstepped i ≡ v
   judge_long v e h u = rw (stepped Long e h) at u
 
-  pub judge_cut : (v : RowAnswer) → r ≡ Cut → 0 < left → answer_of (unpack_row body i left) ≡ v → Ends i ≡ v
+  pub judge_cut : (v : Answer ℕ) → r ≡ Cut → 0 < left → answer_of (unpack_row body i left) ≡ v → refusing BodyEnds i ≡ v
   judge_cut v e h u = rw (stepped Cut e h) at u
 
-pub judge_full : (body : List ℕ) (i left : ℕ) (v : RowAnswer) → left ≤ 0 → answer_of (unpack_row body i left) ≡ v → Full i ≡ v
+pub judge_full : (body : List ℕ) (i left : ℕ) (v : Answer ℕ) → left ≤ 0 → answer_of (unpack_row body i left) ≡ v → Ok i ≡ v
 judge_full body i left v h u = rw (row_none body i left (omega arith)) at u
 
 pub ruleset judging = (skip_fits, skip_less, judge_skip, copy_code_fits, copy_fits, copy_left, copy_less, judge_copy, repeat_fits, repeat_left, repeat_less, judge_repeat, judge_missing, judge_long, judge_cut, judge_full)

@@ -3,8 +3,9 @@ use Rattle.std.specs.Prelude.{ℕ, zero, suc, ◌+◌, ◌-◌, List, [], ◌++�
 use Rattle.iff_name.specs.Name.{pick}
 use Rattle.byterun_row.specs.declared.Code.{Code}
 use Rattle.byterun_row.specs.declared.Code.TheVariants.{Missing, Skip, Copy, Repeat, Long, Cut}
-use Rattle.byterun_row.specs.declared.RowAnswer.{RowAnswer}
-use Rattle.byterun_row.specs.declared.RowAnswer.TheVariants.{Full, Oversteps, Ends}
+use Rattle.iff_refusal.specs.declared.Reason.TheVariants.{BodyEnds, RowOverstepped}
+use Rattle.iff_refusal.specs.Numbers.{Answer, refusing}
+use Rattle.std.specs.Prelude.{Ok}
 
 -- What reading a row comes to: the row's bytes and the place after them, a copy or repeat at that place that oversteps the row,
 -- or the place at which the BODY ends too early.
@@ -63,10 +64,10 @@ abbrev pub row_of : ℕ → List ℕ → ℕ → ℕ → Row
 row_of compression body at n = pick (eqb compression 0) (plain_row body at n) (unpack_row body at n)
 
 -- what is told of a row
-abbrev pub answer_of : Row → RowAnswer
-answer_of (filled bs q) = Full q
-answer_of (over q) = Oversteps q
-answer_of (short q) = Ends q
+abbrev pub answer_of : Row → Answer ℕ
+answer_of (filled bs q) = Ok q
+answer_of (over q) = refusing RowOverstepped q
+answer_of (short q) = refusing BodyEnds q
 
 -- what a row's bytes are after it was read over `old`: a refusal changes nothing
 abbrev pub bytes_after : Row → List ℕ → List ℕ

@@ -4,13 +4,7 @@
 ghost use Rattle.std.specs.Prelude.{◌≡◌, ◌<◌};
 ghost use Rattle.byterun_row.specs.ByteRun.{code_of, unpack_row, plain_row, row_of, answer_of};
 
-// A row is full and the next one starts at the place, a copy or repeat at the place oversteps the row, or the BODY ends too early.
-#[derive(Clone, Copy)]
-pub enum RowAnswer {
-    Full(usize),
-    Oversteps(usize),
-    Ends(usize),
-}
+use iff_refusal::{Reason, Refusal};
 
 // What a code byte asks for: there is none; nothing; a copy; a repeat; a run that oversteps the row; a run whose data bytes are not all there.
 #[derive(Clone, Copy)]
@@ -31,6 +25,7 @@ fn wide(x: u8) -> usize
 }
 
 // The code byte at i, with `left` bytes of the row left.
+#[tactic(auto, using(crate::proofs::Codes::laws))]
 pub fn code_at(body: &[u8], i: usize, left: usize) -> Code
     ensures { result ≡ code_of body.now i left }
 {
@@ -63,7 +58,8 @@ pub fn code_at(body: &[u8], i: usize, left: usize) -> Code
 }
 
 // Steps from code to code, with no byte written, until the row is full or a code is refused.
-fn judge_packed(body: &[u8], at: usize, n: usize) -> RowAnswer
+#[tactic(auto, using(crate::proofs::Steps::judging))]
+fn judge_packed(body: &[u8], at: usize, n: usize) -> Result<usize, Refusal>
     ensures { result ≡ answer_of (unpack_row body.now at n) }
 {
     let mut i = at;
@@ -71,9 +67,7 @@ fn judge_packed(body: &[u8], at: usize, n: usize) -> RowAnswer
     while 0 < left {
         let code = code_at(body, i, left);
         match code {
-            Code::Missing => {
-                return RowAnswer::Ends(body.len());
-            }
+            Code::Missing => return Err(Reason::BodyEnds.at(body.len())),
             Code::Skip => {
                 i = i + 1;
             }
@@ -85,36 +79,33 @@ fn judge_packed(body: &[u8], at: usize, n: usize) -> RowAnswer
                 i = i + 2;
                 left = left - times;
             }
-            Code::Long => {
-                return RowAnswer::Oversteps(i);
-            }
-            Code::Cut => {
-                return RowAnswer::Ends(i);
-            }
+            Code::Long => return Err(Reason::RowOverstepped.at(i)),
+            Code::Cut => return Err(Reason::BodyEnds.at(i)),
         }
     }
-    RowAnswer::Full(i)
+    Ok(i)
 }
 
 // A plain row is full if its n bytes are there.
-fn judge_plain(body: &[u8], at: usize, n: usize) -> RowAnswer
+#[tactic(auto, using(crate::proofs::Codes::laws))]
+fn judge_plain(body: &[u8], at: usize, n: usize) -> Result<usize, Refusal>
     ensures { result ≡ answer_of (plain_row body.now at n) }
 {
     if n == 0 {
-        return RowAnswer::Full(at);
+        return Ok(at);
     }
     if body.len() <= at {
-        return RowAnswer::Ends(at);
+        return Err(Reason::BodyEnds.at(at));
     }
     if n <= body.len() - at {
-        RowAnswer::Full(at + n)
+        Ok(at + n)
     } else {
-        RowAnswer::Ends(at)
+        Err(Reason::BodyEnds.at(at))
     }
 }
 
 // What reading a row of n bytes from `at` would answer.
-pub fn judge_row(body: &[u8], at: usize, n: usize, compression: u8) -> RowAnswer
+pub fn judge_row(body: &[u8], at: usize, n: usize, compression: u8) -> Result<usize, Refusal>
     ensures { result ≡ answer_of (row_of compression body.now at n) }
 {
     if compression == 0 {

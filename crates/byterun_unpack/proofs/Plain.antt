@@ -1,6 +1,6 @@
--- A plain row is its part of the BODY; what was judged of a row, and what was then written, settle its answer and its bytes.
+-- A plain row is its part of the BODY.
 use Prim.Native.Nat.{ℕ, ◌+◌, ◌-◌, ◌^◌, ◌<◌, ◌≤◌}
-use mathlib.Core.Path.{◌≡◌, refl, sym, ap, ◌∙◌}
+use mathlib.Core.Path.{◌≡◌, refl, ap, ◌∙◌}
 use mathlib.Core.List.{List}
 use mathlib.Core.Bool.{Bool, true, false}
 use lib.ListN.{length, take, drop, length-drop}
@@ -11,9 +11,7 @@ use mir.Val.{Fits}
 use borrow.Author.Tests.{le-leb, leb-true}
 use native.Mathlib.Omega.{arith}
 use Rattle.iff_name.specs.Name.{pick}
-use Rattle.byterun_row.specs.ByteRun.{Row, filled, over, short, plain_row, answer_of, bytes_after, IsFull}
-use Rattle.byterun_row.specs.declared.RowAnswer.{RowAnswer}
-use Rattle.byterun_row.specs.declared.RowAnswer.TheVariants.{Full, Oversteps, Ends}
+use Rattle.byterun_row.specs.ByteRun.{Row, filled, short, plain_row, IsFull}
 
 plain_room : (body : List ℕ) (at n : ℕ) → IsFull (plain_row body at n) → n ≤ length body - at
 unfolding plain_row
@@ -48,24 +46,3 @@ pub ruleset plain = (plain_empty, plain_inside, plain_fits, plain_written)
 -- a row that is all of the buffer
 pub whole_row : (v : Row) (r n : ℕ) (row : List ℕ) → length row ≡ n → v ≡ filled (take n row) r → v ≡ filled row r
 whole_row v r n row l e = e ∙ ap (λ (bs : List ℕ). filled bs r) (take_all n row (omega arith))
-
--- the ways through `read_row`
-module _ (row : Row) (r : RowAnswer) (is : r ≡ answer_of row) where
-  pub read_full : (q p : ℕ) (old new : List ℕ) → r ≡ Full q → row ≡ filled new p → (Full q ≡ answer_of row) × (new ≡ bytes_after row old)
-  read_full q p old new e w = (sym e ∙ is, rw w)
-
-  pub read_over : (q : ℕ) (old : List ℕ) → r ≡ Oversteps q → (Oversteps q ≡ answer_of row) × (old ≡ bytes_after row old)
-  read_over q old e = (sym e ∙ is, go row (sym is ∙ e))
-    where
-      go : (w : Row) → answer_of w ≡ Oversteps q → old ≡ bytes_after w old
-      go (filled bs p) d = let z : ◌≡◌ {A = ℕ} 0 1 = cc in absurd (omega arith)
-      go (over p) d = refl
-      go (short p) d = refl
-
-  pub read_short : (q : ℕ) (old : List ℕ) → r ≡ Ends q → (Ends q ≡ answer_of row) × (old ≡ bytes_after row old)
-  read_short q old e = (sym e ∙ is, go row (sym is ∙ e))
-    where
-      go : (w : Row) → answer_of w ≡ Ends q → old ≡ bytes_after w old
-      go (filled bs p) d = let z : ◌≡◌ {A = ℕ} 0 1 = cc in absurd (omega arith)
-      go (over p) d = refl
-      go (short p) d = refl

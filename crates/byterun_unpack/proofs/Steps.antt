@@ -82,4 +82,4 @@ pub ruleset codes = (skip_fits, skip_less, copy_code_fits, copy_fits, copy_insid
 
 pub ruleset runs = (repeat_fits, repeat_left, repeat_less, run_room, run_fits, le_refl)
 
-pub ruleset writing = (codes, runs, write_starts, write_skip, no_missing, no_long, no_cut, write_ends)
+pub ruleset writing = (codes, runs, write_starts, write_skip, write_copy, write_repeat, no_missing, no_long, no_cut, write_ends)

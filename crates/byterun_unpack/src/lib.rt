@@ -6,9 +6,11 @@ ghost use Rattle.byterun_row.specs.ByteRun.{unpack_row, plain_row, row_of, fille
 
 use byterun_copy::copy_run;
 use byterun_overshoot::{copy_over, fill_over};
-use byterun_row::{Code, RowAnswer, code_at, judge_row};
+use byterun_row::{Code, code_at, judge_row};
+use iff_refusal::Refusal;
 
 // Carries out the codes of a row of n bytes that is known to be whole; what stands behind them is free.
+#[tactic(auto, using(crate::proofs::Steps::writing))]
 fn write_packed(body: &[u8], at: usize, n: usize, row: &mut [u8]) -> usize
     requires n_in_bounds { n ≤ length row.old }
     requires full { IsFull (unpack_row body.now at n) }
@@ -47,6 +49,7 @@ fn write_packed(body: &[u8], at: usize, n: usize, row: &mut [u8]) -> usize
 }
 
 // Copies a plain row of n bytes that is known to be whole; what stands behind them is free.
+#[tactic(auto, using(crate::proofs::Plain::plain))]
 fn write_plain(body: &[u8], at: usize, n: usize, row: &mut [u8]) -> usize
     requires n_in_bounds { n ≤ length row.old }
     requires full { IsFull (plain_row body.now at n) }
@@ -82,17 +85,11 @@ pub fn write_row(body: &[u8], at: usize, compression: u8, row: &mut [u8]) -> usi
 }
 
 // Reads a row; a refusal leaves it as it was.
-pub fn read_row(body: &[u8], at: usize, compression: u8, row: &mut [u8]) -> RowAnswer
+pub fn read_row(body: &[u8], at: usize, compression: u8, row: &mut [u8]) -> Result<usize, Refusal>
     ensures is { result ≡ answer_of (row_of compression body.now at (length row.old)) }
     ensures bytes { row.new ≡ bytes_after (row_of compression body.now at (length row.old)) row.old }
 {
-    let answer = judge_row(body, at, row.len(), compression);
-    match answer {
-        RowAnswer::Full(next) => {
-            write_row(body, at, compression, row);
-            RowAnswer::Full(next)
-        }
-        RowAnswer::Oversteps(place) => RowAnswer::Oversteps(place),
-        RowAnswer::Ends(place) => RowAnswer::Ends(place),
-    }
+    let next = judge_row(body, at, row.len(), compression)?;
+    write_row(body, at, compression, row);
+    Ok(next)
 }

@@ -5,9 +5,9 @@
 ghost use Rattle.std.specs.Prelude.{◌≡◌, length};
 ghost use Rattle.ilbm_spec.specs.Rows.{line_answer, frame_answer, bytes_after};
 ghost use Rattle.ilbm_spec.specs.Colours.{colour_line_in_body, colour_frame_in_body};
-ghost use Rattle.export_row_numbers.specs.Rows.{line_numbers, frame_numbers};
+ghost use Rattle.export_numbers.specs.Numbers.{value_numbers};
 
-use export_row_numbers::{tell_frame, tell_line};
+use export_numbers::tell;
 use ilbm_body_colours::{colour_frame_in_body, colour_line_in_body};
 
 // Red, green and blue of each pixel of a scan line of any bytes as a BODY, by the fields of its header, the number that CAMG holds and
@@ -26,7 +26,7 @@ pub extern "C" fn ilbm_body_colour_line(
     place: &mut usize,
     next: &mut usize,
 ) -> usize
-    ensures answer { record { number = result; place = place.new; value = next.new } ≡ line_numbers (line_answer
+    ensures answer { record { number = result; place = place.new; value = next.new } ≡ value_numbers (line_answer
         (colour_line_in_body body.now w planes masking compression mode palette.now start
         (length row.old))) }
     ensures bytes { row.new ≡ bytes_after
@@ -44,7 +44,7 @@ pub extern "C" fn ilbm_body_colour_line(
         start,
         row,
     );
-    tell_line(v, place, next)
+    tell(v, place, next)
 }
 
 // Red, green and blue of all pixels of any bytes as a BODY, by the fields of its header, the number that CAMG holds and the palette.
@@ -62,7 +62,7 @@ pub extern "C" fn ilbm_body_colour_frame(
     place: &mut usize,
     leftover: &mut usize,
 ) -> usize
-    ensures answer { record { number = result; place = place.new; value = leftover.new } ≡ frame_numbers (frame_answer
+    ensures answer { record { number = result; place = place.new; value = leftover.new } ≡ value_numbers (frame_answer
         (colour_frame_in_body body.now w h planes masking compression mode palette.now
         (length frame.old))) }
     ensures bytes { frame.new ≡ bytes_after
@@ -80,5 +80,5 @@ pub extern "C" fn ilbm_body_colour_frame(
         palette,
         frame,
     );
-    tell_frame(v, place, leftover)
+    tell(v, place, leftover)
 }

@@ -3,9 +3,9 @@
 
 ghost use Rattle.std.specs.Prelude.{◌≡◌, length};
 ghost use Rattle.ilbm_spec.specs.Rows.{line_in_body, frame_in_body, line_answer, frame_answer, bytes_after};
-ghost use Rattle.export_row_numbers.specs.Rows.{line_numbers, frame_numbers};
+ghost use Rattle.export_numbers.specs.Numbers.{value_numbers};
 
-use export_row_numbers::{tell_frame, tell_line};
+use export_numbers::tell;
 use ilbm_body_rows::{frame_in_body, line_in_body};
 
 // The colour numbers of a scan line of any bytes as a BODY, by the fields of its header.
@@ -22,12 +22,12 @@ pub extern "C" fn ilbm_body_line(
     next: &mut usize,
 ) -> usize
     ensures answer { record { number = result; place = place.new; value = next.new }
-        ≡ line_numbers (line_answer (line_in_body body.now w planes masking compression start (length row.old))) }
+        ≡ value_numbers (line_answer (line_in_body body.now w planes masking compression start (length row.old))) }
     ensures bytes { row.new
         ≡ bytes_after (line_in_body body.now w planes masking compression start (length row.old)) row.old }
 {
     let v = line_in_body(body, w, planes, masking, compression, start, row);
-    tell_line(v, place, next)
+    tell(v, place, next)
 }
 
 // The colour numbers of all scan lines of any bytes as a BODY, by the fields of its header.
@@ -44,10 +44,10 @@ pub extern "C" fn ilbm_body_frame(
     leftover: &mut usize,
 ) -> usize
     ensures answer { record { number = result; place = place.new; value = leftover.new }
-        ≡ frame_numbers (frame_answer (frame_in_body body.now w h planes masking compression (length frame.old))) }
+        ≡ value_numbers (frame_answer (frame_in_body body.now w h planes masking compression (length frame.old))) }
     ensures bytes { frame.new
         ≡ bytes_after (frame_in_body body.now w h planes masking compression (length frame.old)) frame.old }
 {
     let v = frame_in_body(body, w, h, planes, masking, compression, frame);
-    tell_frame(v, place, leftover)
+    tell(v, place, leftover)
 }

@@ -5,9 +5,9 @@
 ghost use Rattle.std.specs.Prelude.{◌≡◌, length};
 ghost use Rattle.ilbm_spec.specs.Rows.{line_answer, frame_answer};
 ghost use Rattle.ilbm_spec.specs.Shapes.{shape_line_in_body, shape_frame_in_body, colours_after, shape_after};
-ghost use Rattle.export_row_numbers.specs.Rows.{line_numbers, frame_numbers};
+ghost use Rattle.export_numbers.specs.Numbers.{value_numbers};
 
-use export_row_numbers::{tell_frame, tell_line};
+use export_numbers::tell;
 use ilbm_body_shapes::{shape_frame_in_body, shape_line_in_body};
 
 // The colour numbers of a scan line of any bytes as a BODY with their shape, by the fields of its header.
@@ -25,7 +25,7 @@ pub extern "C" fn ilbm_body_shape_line(
     place: &mut usize,
     next: &mut usize,
 ) -> usize
-    ensures answer { record { number = result; place = place.new; value = next.new } ≡ line_numbers (line_answer
+    ensures answer { record { number = result; place = place.new; value = next.new } ≡ value_numbers (line_answer
         (shape_line_in_body body.now w planes masking compression transparent start
         (length row.old) (length shape.old))) }
     ensures colours { row.new ≡ colours_after
@@ -46,7 +46,7 @@ pub extern "C" fn ilbm_body_shape_line(
         row,
         shape,
     );
-    tell_line(v, place, next)
+    tell(v, place, next)
 }
 
 // The colour numbers of all scan lines of any bytes as a BODY with their shape, by the fields of its header.
@@ -64,7 +64,7 @@ pub extern "C" fn ilbm_body_shape_frame(
     place: &mut usize,
     leftover: &mut usize,
 ) -> usize
-    ensures answer { record { number = result; place = place.new; value = leftover.new } ≡ frame_numbers (frame_answer
+    ensures answer { record { number = result; place = place.new; value = leftover.new } ≡ value_numbers (frame_answer
         (shape_frame_in_body body.now w h planes masking compression transparent
         (length frame.old) (length shape.old))) }
     ensures colours { frame.new ≡ colours_after
@@ -85,5 +85,5 @@ pub extern "C" fn ilbm_body_shape_frame(
         frame,
         shape,
     );
-    tell_frame(v, place, leftover)
+    tell(v, place, leftover)
 }

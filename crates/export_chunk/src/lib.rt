@@ -6,10 +6,9 @@ ghost use Rattle.std.specs.Prelude.{◌≡◌};
 ghost use Rattle.std.proofs.Math.Seq.{slice};
 ghost use Rattle.list_spec.specs.Records.{record_of};
 ghost use Rattle.list_spec.specs.Contents.{extent_of, data_of};
-ghost use Rattle.export_chunk.specs.Numbers.{record_numbers};
+ghost use Rattle.export_chunk.specs.Numbers.{record_numbers, extent_numbers};
 
 use iff_name::kind_number;
-use list_spec::Listed;
 
 // The record of a chunk by its number.
 #[unsafe(no_mangle)]
@@ -35,7 +34,7 @@ pub extern "C" fn iff_record(
 {
     let v = list_by_number::record_by_number(file, number);
     match v {
-        Listed::Chunk(r) => {
+        Ok(r) => {
             let k = r.kind;
             *place = 0;
             *level = r.level;
@@ -45,17 +44,14 @@ pub extern "C" fn iff_record(
             *size = r.size;
             0
         }
-        Listed::Refused {
-            number: n,
-            place: p,
-        } => {
-            *place = p;
+        Err(r) => {
+            *place = r.place;
             *level = 0;
             *kind = 0;
             *name = 0;
             *at = 0;
             *size = 0;
-            n
+            r.reason.number()
         }
     }
 }
@@ -70,12 +66,21 @@ pub extern "C" fn iff_data(
     to: &mut usize,
 ) -> usize
     ensures answer { record { number = result; place = place.new; from = from.new; to = to.new }
-        ≡ extent_of file.now number }
+        ≡ extent_numbers (extent_of file.now number) }
     ensures part { slice from.new to.new file.now ≡ data_of file.now number }
 {
-    let x = list_data::data_extent(file, number);
-    *place = x.place;
-    *from = x.from;
-    *to = x.to;
-    x.number
+    match list_data::data_extent(file, number) {
+        Ok(x) => {
+            *place = 0;
+            *from = x.from;
+            *to = x.to;
+            0
+        }
+        Err(r) => {
+            *place = r.place;
+            *from = 0;
+            *to = 0;
+            r.reason.number()
+        }
+    }
 }

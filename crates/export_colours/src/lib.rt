@@ -4,9 +4,9 @@
 ghost use Rattle.std.specs.Prelude.{◌≡◌, length};
 ghost use Rattle.ilbm_spec.specs.Rows.{line_answer, frame_answer, bytes_after};
 ghost use Rattle.ilbm_spec.specs.Colours.{colour_line_of, colour_frame_of};
-ghost use Rattle.export_row_numbers.specs.Rows.{line_numbers, frame_numbers};
+ghost use Rattle.export_numbers.specs.Numbers.{value_numbers};
 
-use export_row_numbers::{tell_frame, tell_line};
+use export_numbers::tell;
 use ilbm_colours::{colour_frame, colour_line};
 
 // Red, green and blue of each pixel of a scan line, from a place of the picture's BODY; the row has 3w bytes.
@@ -20,13 +20,13 @@ pub extern "C" fn ilbm_colour_line<'a>(
     place: &mut usize,
     next: &mut usize,
 ) -> usize
-    ensures answer { record { number = result; place = place.new; value = next.new } ≡ line_numbers (line_answer
+    ensures answer { record { number = result; place = place.new; value = next.new } ≡ value_numbers (line_answer
         (colour_line_of file.now picture default.now start (length row.old))) }
     ensures bytes { row.new ≡ bytes_after
         (colour_line_of file.now picture default.now start (length row.old)) row.old }
 {
     let v = colour_line(file, picture, default, start, row);
-    tell_line(v, place, next)
+    tell(v, place, next)
 }
 
 // Red, green and blue of all pixels, and how many bytes of the BODY are left; the frame has 3wh bytes.
@@ -39,11 +39,11 @@ pub extern "C" fn ilbm_colour_frame<'a>(
     place: &mut usize,
     leftover: &mut usize,
 ) -> usize
-    ensures answer { record { number = result; place = place.new; value = leftover.new } ≡ frame_numbers (frame_answer
+    ensures answer { record { number = result; place = place.new; value = leftover.new } ≡ value_numbers (frame_answer
         (colour_frame_of file.now picture default.now (length frame.old))) }
     ensures bytes { frame.new ≡ bytes_after
         (colour_frame_of file.now picture default.now (length frame.old)) frame.old }
 {
     let v = colour_frame(file, picture, default, frame);
-    tell_frame(v, place, leftover)
+    tell(v, place, leftover)
 }

@@ -2,28 +2,39 @@
 #![tactic(auto)]
 
 ghost use Rattle.std.specs.Prelude.{◌≡◌};
-ghost use Rattle.export_fields.specs.Fields.{bmhd_numbers};
+ghost use Rattle.export_fields.specs.Fields.{bmhd_of, bmhd_numbers};
 
+use iff_refusal::Reason;
 use ilbm_fields::{bitmap_header, no_header};
 use ilbm_spec::BitmapHeader;
 
-// What is told of a BMHD.
+// What is told of a BMHD: 0 and its fields, or the number of a refusal with every field 0. C is told numbers, so it is no Result.
 #[derive(Clone, Copy)]
 pub struct BmhdNumbers {
     pub number: usize,
     pub header: BitmapHeader,
 }
 
-// 23 unless there are 20 bytes.
-fn bmhd_numbers(data: &[u8]) -> BmhdNumbers
-    ensures { result ≡ bmhd_numbers «data».now }
+fn bmhd_numbers(v: Result<BitmapHeader, Reason>) -> BmhdNumbers
+    ensures { result ≡ bmhd_numbers v }
+{
+    match v {
+        Ok(header) => BmhdNumbers { number: 0, header },
+        Err(reason) => BmhdNumbers {
+            number: reason.number(),
+            header: no_header(),
+        },
+    }
+}
+
+// The header that the bytes of a BMHD give: 23 unless there are 20.
+fn bmhd(data: &[u8]) -> Result<BitmapHeader, Reason>
+    ensures { result ≡ bmhd_of «data».now }
 {
     if data.len() != 20 {
-        let header = no_header();
-        return BmhdNumbers { number: 23, header };
+        return Err(Reason::WrongSize);
     }
-    let header = bitmap_header(data);
-    BmhdNumbers { number: 0, header }
+    Ok(bitmap_header(data))
 }
 
 // The fields of a BMHD.
@@ -61,9 +72,9 @@ pub extern "C" fn ilbm_bmhd(
         page_width = page_width.new;
         page_height = page_height.new;
       };
-    } ≡ bmhd_numbers «data».now }
+    } ≡ bmhd_numbers (bmhd_of «data».now) }
 {
-    let numbers = bmhd_numbers(data);
+    let numbers = bmhd_numbers(bmhd(data));
     let b = numbers.header;
     let left = b.x;
     let top = b.y;

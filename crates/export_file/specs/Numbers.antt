@@ -1,13 +1,9 @@
 -- The numbers told for each answer: 0 or the refusal's number, its place, and the values;
 -- "any other number told beside it is 0".
 use Rattle.std.specs.Prelude.{ℕ}
-use Rattle.export_numbers.specs.Numbers.{OneValue}
-use Rattle.iff_tree.specs.declared.Verdict.{Verdict}
-use Rattle.iff_tree.specs.declared.Verdict.TheVariants.{Accepted, Refused}
-use Rattle.iff_copy.specs.declared.Copied.{Copied}
-use Rattle.iff_copy.specs.declared.Copied.TheVariants.{Written, Refused as Copied-refused}
-use Rattle.ilbm_count.specs.declared.Counted.{Counted}
-use Rattle.ilbm_count.specs.declared.Counted.TheVariants.{Pictures, Refused as Counted-refused}
+use Rattle.iff_refusal.specs.Numbers.{Answer, number_of}
+use Rattle.iff_tree.specs.declared.Accepted.{Accepted}
+use Rattle.std.specs.Prelude.{Ok, Err}
 
 -- what a call tells beside its number
 pub record CheckNumbers : Type 0 where
@@ -17,14 +13,6 @@ pub record CheckNumbers : Type 0 where
   pub end : ℕ
   pub trailing : ℕ
 
-unfoldable pub check_numbers : Verdict → CheckNumbers
-check_numbers (Accepted c e t) = record { number = 0; place = 0; chunks = c; end = e; trailing = t }
-check_numbers (Refused k p) = record { number = k; place = p; chunks = 0; end = 0; trailing = 0 }
-
-unfoldable pub copy_numbers : Copied → OneValue
-copy_numbers (Written n) = record { number = 0; place = 0; value = n }
-copy_numbers (Copied-refused k p) = record { number = k; place = p; value = 0 }
-
-unfoldable pub count_numbers : Counted → OneValue
-count_numbers (Pictures n) = record { number = 0; place = 0; value = n }
-count_numbers (Counted-refused k p) = record { number = k; place = p; value = 0 }
+abbrev pub check_numbers : Answer Accepted → CheckNumbers
+check_numbers (Ok v) = record { number = 0; place = 0; chunks = v.chunks; end = v.end; trailing = v.trailing }
+check_numbers (Err r) = record { number = number_of r.reason; place = r.place; chunks = 0; end = 0; trailing = 0 }

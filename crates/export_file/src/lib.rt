@@ -6,11 +6,10 @@ ghost use Rattle.std.specs.Prelude.{◌≡◌, length};
 ghost use Rattle.iff_tree.specs.Judge.{check_of};
 ghost use Rattle.iff_copy.specs.Clean.{copy_of, copied_into};
 ghost use Rattle.ilbm_count.specs.Count.{count_of};
-ghost use Rattle.export_file.specs.Numbers.{check_numbers, copy_numbers, count_numbers};
+ghost use Rattle.export_file.specs.Numbers.{check_numbers};
+ghost use Rattle.export_numbers.specs.Numbers.{value_numbers};
 
-use iff_copy::Copied;
-use iff_tree::Verdict;
-use ilbm_count::Counted;
+use export_numbers::tell;
 
 // Judges a file: chunks, end of the outermost chunk, bytes after it.
 #[unsafe(no_mangle)]
@@ -26,23 +25,19 @@ pub extern "C" fn iff_check(
 {
     let v = iff_tree::check(file);
     match v {
-        Verdict::Accepted {
-            chunks: c,
-            end: e,
-            trailing: t,
-        } => {
+        Ok(a) => {
             *place = 0;
-            *chunks = c;
-            *end = e;
-            *trailing = t;
+            *chunks = a.chunks;
+            *end = a.end;
+            *trailing = a.trailing;
             0
         }
-        Verdict::Refused { number, place: p } => {
-            *place = p;
+        Err(r) => {
+            *place = r.place;
             *chunks = 0;
             *end = 0;
             *trailing = 0;
-            number
+            r.reason.number()
         }
     }
 }
@@ -56,40 +51,16 @@ pub extern "C" fn iff_clean_copy(
     written: &mut usize,
 ) -> usize
     ensures answer { record { number = result; place = place.new; value = written.new }
-        ≡ copy_numbers (copy_of file.now (length out.old)) }
+        ≡ value_numbers (copy_of file.now (length out.old)) }
     ensures copied { out.new ≡ copied_into file.now out.old }
 {
-    let v = iff_copy::clean_copy(file, out);
-    match v {
-        Copied::Written(n) => {
-            *place = 0;
-            *written = n;
-            0
-        }
-        Copied::Refused { number, place: p } => {
-            *place = p;
-            *written = 0;
-            number
-        }
-    }
+    tell(iff_copy::clean_copy(file, out), place, written)
 }
 
 // How many pictures a file has.
 #[unsafe(no_mangle)]
 pub extern "C" fn iff_count_pictures(file: &[u8], place: &mut usize, pictures: &mut usize) -> usize
-    ensures { record { number = result; place = place.new; value = pictures.new } ≡ count_numbers (count_of file.now) }
+    ensures { record { number = result; place = place.new; value = pictures.new } ≡ value_numbers (count_of file.now) }
 {
-    let v = ilbm_count::count_pictures(file);
-    match v {
-        Counted::Pictures(n) => {
-            *place = 0;
-            *pictures = n;
-            0
-        }
-        Counted::Refused { number, place: p } => {
-            *place = p;
-            *pictures = 0;
-            number
-        }
-    }
+    tell(ilbm_count::count_pictures(file), place, pictures)
 }

@@ -3,15 +3,17 @@ use Rattle.std.specs.Prelude.{ℕ, List}
 use Rattle.ilbm_spec.specs.Pictures.{Viewed, view_of, origin_of}
 use Rattle.ilbm_spec.specs.Palette.{extent_from}
 use Rattle.ilbm_spec.specs.Table.{origin_number, shared_place}
-use Rattle.ilbm_find.specs.declared.View.{View}
-use Rattle.ilbm_find.specs.declared.View.TheVariants.{Seen, Refused as View-refused}
 use Rattle.ilbm_numbers.specs.Parts.{from_of, to_of}
 use Rattle.iff_tree.specs.Judge.{found, refused}
 use Rattle.export_palette.specs.declared.PaletteParts.{PaletteParts}
+use Rattle.iff_refusal.specs.Numbers.{Answer, number_of}
+use Rattle.ilbm_content.specs.declared.Contents.{Contents}
+use Rattle.ilbm_spec.specs.declared.BitmapHeader.{BitmapHeader}
+use Rattle.std.specs.Prelude.{Ok, Err}
 
 -- The CMAP that counts: its origin, and where its data lies, "handed back as a part of the slice it came from"; 0 and 0 where none
 -- counts, and after a refusal.
-unfoldable pub palette_numbers : Viewed → PaletteParts
+abbrev pub palette_numbers : Viewed → PaletteParts
 palette_numbers (found c) =
     record {
       number = 0;
@@ -21,14 +23,14 @@ palette_numbers (found c) =
       from = (extent_from c.cmap).from;
       to = (extent_from c.cmap).to;
     }
-palette_numbers (refused k p) = record { number = k; place = p; origin = 0; shared = 0; from = 0; to = 0 }
+palette_numbers (refused k p) = record { number = number_of k; place = p; origin = 0; shared = 0; from = 0; to = 0 }
 
 abbrev pub palette_call : List ℕ → ℕ → PaletteParts
 palette_call s i = palette_numbers (view_of s i)
 
 -- the same of the parts that a view gives
-unfoldable pub palette_parts : View → PaletteParts
-palette_parts (Seen c b) =
+abbrev pub palette_parts : Answer (Contents × BitmapHeader) → PaletteParts
+palette_parts (Ok (c, b)) =
     record {
       number = 0;
       place = 0;
@@ -37,4 +39,4 @@ palette_parts (Seen c b) =
       from = from_of c.cmap.part;
       to = to_of c.cmap.part;
     }
-palette_parts (View-refused k p) = record { number = k; place = p; origin = 0; shared = 0; from = 0; to = 0 }
+palette_parts (Err r) = record { number = number_of r.reason; place = r.place; origin = 0; shared = 0; from = 0; to = 0 }

@@ -7,10 +7,13 @@ ghost use Rattle.std.proofs.Math.Seq.{slice};
 ghost use Rattle.ilbm_spec.specs.Palette.{palette_answer};
 ghost use Rattle.export_palette.specs.Palette.{palette_parts, palette_call};
 
-use ilbm_find::{View, view_picture};
+use iff_refusal::Refusal;
+use ilbm_content::Contents;
+use ilbm_find::view_picture;
 use ilbm_numbers::{origin_number, part_from, part_to, shared_place};
+use ilbm_spec::BitmapHeader;
 
-// What is told of the CMAP that counts: its origin, and its part of the file.
+// What is told of the CMAP that counts: its origin, and its part of the file. C is told numbers, so it is no Result.
 #[derive(Clone, Copy)]
 pub struct PaletteParts {
     pub number: usize,
@@ -21,11 +24,11 @@ pub struct PaletteParts {
     pub to: usize,
 }
 
-fn palette_parts(v: View) -> PaletteParts
+fn palette_parts(v: Result<(Contents, BitmapHeader), Refusal>) -> PaletteParts
     ensures { result ≡ palette_parts v }
 {
     match v {
-        View::Seen(c, _) => {
+        Ok((c, _)) => {
             let cmap = c.cmap;
             let part = cmap.part;
             let o = cmap.origin;
@@ -38,9 +41,9 @@ fn palette_parts(v: View) -> PaletteParts
                 to: part_to(part),
             }
         }
-        View::Refused(number, place) => PaletteParts {
-            number,
-            place,
+        Err(r) => PaletteParts {
+            number: r.reason.number(),
+            place: r.place,
             origin: 0,
             shared: 0,
             from: 0,

@@ -3,9 +3,9 @@
 
 ghost use Rattle.std.specs.Prelude.{◌≡◌, length};
 ghost use Rattle.ilbm_spec.specs.Table.{table_of, table_answer, table_after};
-ghost use Rattle.export_pictures.specs.Numbers.{pictures_numbers};
+ghost use Rattle.export_numbers.specs.Numbers.{value_numbers};
 
-use ilbm_spec::TableAnswer;
+use export_numbers::tell;
 
 // Fills the table with all pictures of the file, 30 numbers to a picture.
 #[unsafe(no_mangle)]
@@ -16,21 +16,9 @@ pub extern "C" fn ilbm_pictures(
     pictures: &mut usize,
 ) -> usize
     ensures answer { record { number = result; place = place.new; value = pictures.new }
-        ≡ pictures_numbers (table_answer (table_of file.now (length table.old))) }
+        ≡ value_numbers (table_answer (table_of file.now (length table.old))) }
     ensures numbers { table.new
         ≡ table_after (table_of file.now (length table.old)) table.old }
 {
-    let v = ilbm_table::fill_table(file, table);
-    match v {
-        TableAnswer::Pictures(n) => {
-            *place = 0;
-            *pictures = n;
-            0
-        }
-        TableAnswer::Refused { number, place: p } => {
-            *place = p;
-            *pictures = 0;
-            number
-        }
-    }
+    tell(ilbm_table::fill_table(file, table), place, pictures)
 }

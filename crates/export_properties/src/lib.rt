@@ -36,7 +36,7 @@ pub extern "C" fn ilbm_header(
     ensures { record {
       number = result;
       place = place.new;
-      header = record {
+      value = record {
         w = w.exit.now;
         h = h.new;
         x = x.new;
@@ -56,7 +56,7 @@ pub extern "C" fn ilbm_header(
     } ≡ header_numbers (picture_of file.now number) }
 {
     let numbers = header_numbers(picture(file, number));
-    let b = numbers.header;
+    let b = numbers.value;
     let left = b.x;
     let top = b.y;
     let width = b.page_width;
@@ -94,13 +94,13 @@ pub extern "C" fn ilbm_grab(
     ensures { record {
       number = result;
       place = place.new;
-      grab = record { x = x.exit.now; y = y.new };
+      value = record { x = x.exit.now; y = y.new };
       origin = origin.new;
       shared = shared.new;
     } ≡ grab_numbers (picture_of file.now number) }
 {
     let numbers = grab_numbers(picture(file, number));
-    let spot = numbers.grab;
+    let spot = numbers.value;
     let left = spot.x;
     let top = spot.y;
     *place = numbers.place;
@@ -128,13 +128,19 @@ pub extern "C" fn ilbm_dest(
     ensures { record {
       number = result;
       place = place.new;
-      destination = record { depth = depth.exit.now; pad1 = pad1.new; plane_pick = plane_pick.new; plane_on_off = plane_on_off.new; plane_mask = plane_mask.new };
+      value = record {
+        depth = depth.exit.now;
+        pad1 = pad1.new;
+        plane_pick = plane_pick.new;
+        plane_on_off = plane_on_off.new;
+        plane_mask = plane_mask.new;
+      };
       origin = origin.new;
       shared = shared.new;
     } ≡ destination_numbers (picture_of file.now number) }
 {
     let numbers = destination_numbers(picture(file, number));
-    let fields = numbers.destination;
+    let fields = numbers.value;
     *place = numbers.place;
     *depth = fields.depth;
     *pad1 = fields.pad1;
@@ -159,14 +165,14 @@ pub extern "C" fn ilbm_sprite(
     ensures { record {
       number = result;
       place = place.new;
-      sprite = sprite.new;
+      value = sprite.new;
       origin = origin.new;
       shared = shared.new;
     } ≡ sprite_numbers (picture_of file.now number) }
 {
     let numbers = sprite_numbers(picture(file, number));
     *place = numbers.place;
-    *sprite = numbers.sprite;
+    *sprite = numbers.value;
     *origin = numbers.origin;
     *shared = numbers.shared;
     numbers.number
@@ -185,14 +191,14 @@ pub extern "C" fn ilbm_view_mode(
     ensures { record {
       number = result;
       place = place.new;
-      view_mode = view_mode.new;
+      value = view_mode.new;
       origin = origin.new;
       shared = shared.new;
     } ≡ view_mode_numbers (picture_of file.now number) }
 {
     let numbers = view_mode_numbers(picture(file, number));
     *place = numbers.place;
-    *view_mode = numbers.view_mode;
+    *view_mode = numbers.value;
     *origin = numbers.origin;
     *shared = numbers.shared;
     numbers.number

@@ -3,9 +3,9 @@
 
 ghost use Rattle.std.specs.Prelude.{◌≡◌, length};
 ghost use Rattle.ilbm_spec.specs.Rows.{line_of, frame_of, line_answer, frame_answer, bytes_after};
-ghost use Rattle.export_row_numbers.specs.Rows.{line_numbers, frame_numbers};
+ghost use Rattle.export_numbers.specs.Numbers.{value_numbers};
 
-use export_row_numbers::{tell_frame, tell_line};
+use export_numbers::tell;
 use ilbm_rows::{scan_line, whole_frame};
 
 // The colour numbers of a scan line, from a place of the picture's BODY; the row has w bytes.
@@ -19,12 +19,12 @@ pub extern "C" fn ilbm_line(
     next: &mut usize,
 ) -> usize
     ensures answer { record { number = result; place = place.new; value = next.new }
-        ≡ line_numbers (line_answer (line_of file.now number start (length row.old))) }
+        ≡ value_numbers (line_answer (line_of file.now number start (length row.old))) }
     ensures bytes { row.new
         ≡ bytes_after (line_of file.now number start (length row.old)) row.old }
 {
     let v = scan_line(file, number, start, row);
-    tell_line(v, place, next)
+    tell(v, place, next)
 }
 
 // The colour numbers of all scan lines, and how many bytes of the BODY are left; the frame has w times h bytes.
@@ -37,10 +37,10 @@ pub extern "C" fn ilbm_frame(
     leftover: &mut usize,
 ) -> usize
     ensures answer { record { number = result; place = place.new; value = leftover.new }
-        ≡ frame_numbers (frame_answer (frame_of file.now number (length frame.old))) }
+        ≡ value_numbers (frame_answer (frame_of file.now number (length frame.old))) }
     ensures bytes { frame.new
         ≡ bytes_after (frame_of file.now number (length frame.old)) frame.old }
 {
     let v = whole_frame(file, number, frame);
-    tell_frame(v, place, leftover)
+    tell(v, place, leftover)
 }

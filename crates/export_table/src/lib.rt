@@ -8,37 +8,8 @@ ghost use Rattle.list_capacity.specs.Capacity.{answer_of};
 ghost use Rattle.list_column_table.specs.Table.{room_of, Filled};
 ghost use Rattle.export_table.specs.Numbers.{records_numbers};
 
-use iff_tree::Verdict;
+use export_numbers::tell;
 use list_column_table::fill_table;
-
-// An answer as numbers.
-#[derive(Clone, Copy)]
-struct Answer {
-    number: usize,
-    place: usize,
-    chunks: usize,
-}
-
-fn answer_numbers(v: Verdict) -> Answer
-    ensures { record { number = result.number; place = result.place; value = result.chunks } ≡ records_numbers v }
-{
-    match v {
-        Verdict::Accepted {
-            chunks,
-            end: _,
-            trailing: _,
-        } => Answer {
-            number: 0,
-            place: 0,
-            chunks,
-        },
-        Verdict::Refused { number, place } => Answer {
-            number,
-            place,
-            chunks: 0,
-        },
-    }
-}
 
 // The records of all chunks of a file, in file order.
 #[unsafe(no_mangle)]
@@ -62,8 +33,5 @@ pub extern "C" fn iff_records(
         numbers.new levels.new kinds.new names.new places.new sizes.new }
 {
     let filled = fill_table(file, numbers, levels, kinds, names, places, sizes);
-    let answer = answer_numbers(filled);
-    *place = answer.place;
-    *chunks = answer.chunks;
-    answer.number
+    tell(filled.map(|a| a.chunks), place, chunks)
 }

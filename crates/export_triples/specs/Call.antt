@@ -1,5 +1,7 @@
 -- What the two calls on triples tell, and what stands in the lent bytes afterwards.
-use Rattle.std.specs.Prelude.{ℕ, List, [], ◌∷◌, ◌++◌, ltb, eqb, length, get_or, drop}
+use Rattle.std.specs.Prelude.{ℕ, List, [], ◌∷◌, ◌++◌, ltb, eqb, length, get_or, drop, Option, Some, None}
+use Rattle.iff_refusal.specs.declared.Refusal.{Refusal}
+use Rattle.iff_refusal.specs.Numbers.{number_of, place_in}
 use Rattle.iff_name.specs.Name.{pick}
 use Rattle.ilbm_spec.specs.Triples.{Triples}
 
@@ -19,6 +21,11 @@ room_number room = pick (ltb room 192) 32 0
 abbrev pub bytes_after : ℕ → List (List ℕ) → List ℕ → List ℕ
 bytes_after number triples lent = pick (eqb number 0) (joined triples ++ drop 192 lent) lent
 
+-- the number of a refusal, or else another
+abbrev pub number_behind : Option Refusal → ℕ → ℕ
+number_behind None n = n
+number_behind (Some r) n = number_of r.reason
+
 -- What the call on a picture tells: its refusal with the place, then 32.
 pub record Told : Type 0 where
   pub number : ℕ
@@ -27,5 +34,5 @@ pub record Told : Type 0 where
 
 abbrev pub triples_call : Triples → List ℕ → Told
 triples_call t lent =
-    let number : ℕ = pick (eqb t.number 0) (room_number (length lent)) t.number in
-    record { number = number; place = t.place; bytes = bytes_after number t.triples lent }
+    let number : ℕ = number_behind t.refusal (room_number (length lent)) in
+    record { number = number; place = place_in t.refusal; bytes = bytes_after number t.triples lent }

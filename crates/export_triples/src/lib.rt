@@ -1,26 +1,20 @@
 // The exported calls on a palette as triples: 0 or the number of a refusal, which leaves the lent bytes.
 #![tactic(auto)]
 
-ghost use Rattle.std.specs.Prelude.{◌≡◌, length};
+ghost use Rattle.std.specs.Prelude.{◌≡◌, length, flat_map};
 ghost use Rattle.ilbm_spec.specs.Triples.{triples_by, triples_of};
-ghost use Rattle.export_triples.specs.Call.{room_number, bytes_after, triples_call};
+ghost use Rattle.export_triples.specs.Call.{joined, room_number, bytes_after, triples_call};
 
-use byterun_copy::put_three;
-
-// Writes all triples into the lent bytes, if there is room.
+// Writes all triples into the lent bytes, if there is room: 0 or 32, a number since C is told one.
 fn put(all: [[u8; 3]; 64], lent: &mut [u8]) -> usize
+    requires three_each { flat_map (λ t. t) all ≡ joined all }
     ensures number { result ≡ room_number (length lent.old) }
     ensures bytes { lent.new ≡ bytes_after result all lent.old }
 {
     if lent.len() < 192 {
         return 32;
     }
-    let mut i = 0;
-    while i < 64 {
-        let one = all[i];
-        put_three(lent, 3 * i, one[0], one[1], one[2]);
-        i += 1;
-    }
+    lent[..192].copy_from_slice(all.as_flattened());
     0
 }
 
@@ -36,12 +30,17 @@ pub extern "C" fn ilbm_triples<'a>(
     ensures { record { number = result; place = place.new; bytes = triples.new }
         ≡ triples_call (triples_of file.now picture default.now) triples.old }
 {
-    let mut number = 0;
-    let all = ilbm_triples::triples(file, picture, default, &mut number, place);
-    if number != 0 {
-        return number;
+    let all = ilbm_triples::triples(file, picture, default);
+    match all.refusal {
+        None => {
+            *place = 0;
+            put(all.triples, triples)
+        }
+        Some(r) => {
+            *place = r.place;
+            r.reason.number()
+        }
     }
-    put(all, triples)
 }
 
 // Any palette as 64 triples, by the planes and the number that CAMG holds.

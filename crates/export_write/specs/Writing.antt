@@ -1,10 +1,8 @@
 -- The fields that the picture writer is handed, and the numbers told of its answer and of the packer's.
-use Rattle.std.specs.Prelude.{ℕ, ℤ}
+use Rattle.std.specs.Prelude.{ℕ, ℤ, Result, Ok, Err}
 use Rattle.ilbm_spec.specs.declared.BitmapHeader.{BitmapHeader}
-use Rattle.byterun_pack.specs.declared.PackAnswer.{PackAnswer}
-use Rattle.byterun_pack.specs.Pack.{pack_number, length_of as packLength}
-use Rattle.write_picture.specs.declared.WriteAnswer.{WriteAnswer}
-use Rattle.write_picture.specs.Write.{write_number, length_of}
+use Rattle.iff_refusal.specs.declared.Reason.{Reason}
+use Rattle.iff_refusal.specs.Numbers.{number_of}
 
 -- "pad1 .. 0": it is not handed over
 abbrev pub header_of : ℕ → ℕ → ℤ → ℤ → ℕ → ℕ → ℕ → ℕ → ℕ → ℕ → ℤ → ℤ → BitmapHeader
@@ -25,13 +23,11 @@ header_of w h x y planes masking compression transparent xAspect yAspect pageWid
       page_height = pageHeight;
     }
 
--- the number and the length; no refusal here has a place
+-- 0 and the length of what was written, or the number of a refusal and 0; no refusal here has a place
 pub record SizeNumbers : Type 0 where
   pub number : ℕ
   pub value : ℕ
 
-unfoldable pub pack_numbers : PackAnswer → SizeNumbers
-pack_numbers a = record { number = pack_number a; value = packLength a }
-
-unfoldable pub write_numbers : WriteAnswer → SizeNumbers
-write_numbers a = record { number = write_number a; value = length_of a }
+abbrev pub size_numbers : Result ℕ Reason → SizeNumbers
+size_numbers (Ok n) = record { number = 0; value = n }
+size_numbers (Err k) = record { number = number_of k; value = 0 }

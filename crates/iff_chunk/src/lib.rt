@@ -1,23 +1,17 @@
 // What is read of a chunk's header: its name, its size and the place after the chunk.
 #![tactic(auto)]
 
-ghost use Rattle.std.specs.Prelude.{◌≡◌, ◌+◌, ◌*◌, ◌≤◌, ◌<◌, length};
+ghost use Rattle.std.specs.Prelude.{◌≡◌, ◌+◌, ◌≤◌, ◌<◌, length};
 ghost use Rattle.iff_chunk.specs.Chunks.{word, next_at};
 
 use iff_name::Name;
-
-fn quad(a: u8, b: u8, c: u8, d: u8) -> usize
-    ensures { (result ≡ a * 16777216 + b * 65536 + c * 256 + d) × (result < 4294967296) }
-{
-    (a as usize) * 16777216 + (b as usize) * 65536 + (c as usize) * 256 + (d as usize)
-}
 
 // The size that the four bytes from p on give.
 pub fn size_at(s: &[u8], p: usize) -> usize
     requires { p + 4 ≤ length s.now }
     ensures { (result ≡ word s.now p) × (result < 4294967296) }
 {
-    quad(s[p], s[p + 1], s[p + 2], s[p + 3])
+    u32::from_be_bytes([s[p], s[p + 1], s[p + 2], s[p + 3]]) as usize
 }
 
 // The name that the four bytes from p on are: its number is read as a size is.

@@ -1,75 +1,30 @@
 -- One law for each way through the code. While the pads are made zero the buffer is what is clean already, then the chunks still to
 -- come as the file has them, then what stood behind the copy; the result has the same with the pads of those chunks zero.
-use Prim.Native.Nat.{ℕ, suc, ◌+◌, ◌-◌, ◌%◌, ◌≤◌, ◌<◌}
+use Prim.Native.Nat.{ℕ, ◌+◌, ◌-◌, ◌%◌, ◌≤◌, ◌<◌}
 use mathlib.Core.Path.{◌≡◌, refl, sym, ap, ◌∙◌}
 use mathlib.Core.List.{List, [], ◌++◌}
 use mathlib.Core.Bool.{Bool, true, false}
 use native.Mathlib.Omega.{arith}
-use native.Mathlib.Numerals.{add-one}
 use lib.Dec.{eqb}
-use lib.ListN.{length, get_or, take, drop, set, replicate, length-append, length-replicate, take-append-drop}
-use lib.Seq.{set_at, take_at, drop_at, take-suc, drop-cons, length-take-le, append_snoc}
-use borrow.Author.Tests.{eq-eqb, ne_eqb, lt-ltb, le-ltb}
+use lib.ListN.{length, take, drop, set, replicate, length-append, length-replicate, take-append-drop}
+use lib.Seq.{take_at, drop_at, length-take-le}
+use borrow.Author.Tests.{lt-ltb, le-ltb}
 use Rattle.iff_name.specs.Name.{pick, kind_of}
-use Rattle.iff_name.specs.declared.Kind.{Kind}
-use Rattle.iff_tree.specs.declared.Verdict.{Verdict}
-use Rattle.iff_tree.specs.declared.Verdict.TheVariants as verdict
-use Rattle.iff_chunk.specs.Chunks.{Chunks, none, Chunk, before, bytes, word, next_at}
+use Rattle.iff_chunk.specs.Chunks.{Chunks, none, before, bytes, word, next_at}
 use Rattle.iff_rules.specs.Rules.{is_group}
-use Rattle.iff_tree.specs.Judge.{Found, found, refused, read_file, verdict_of, check_of}
+use Rattle.iff_tree.specs.Judge.{check_of}
 use Rattle.iff_grammar.specs.Words.{Bytes}
 use Rattle.iff_walk.specs.Order.{join, following}
 use Rattle.iff_walk.specs.Coming.{Coming, AtLeaf, AtGroup, Sound}
 use Rattle.iff_walk.specs.laws.Coming.{coming_none, coming_room, coming_further, leaf_here, group_here, accepted_sound}
-use Rattle.iff_copy.specs.declared.Copied.TheVariants.{Written, Refused}
 use Rattle.iff_copy.specs.Clean.{zero_pads, clean_bytes, copy_of, copied_into}
 use Rattle.iff_copy.specs.Pads.{pad_zeroed}
 use Rattle.iff_copy.proofs.Bytes.{zero_length, leaf_head, group_head, leaf_split, group_split, group_split_zero, leaf_zeroed}
-
--- the bytes
-
-pub copied_more : (s d out : List ℕ) (i : ℕ) → i < length s → i < length d → out ≡ take i s ++ drop i d →
-    set out i (get_or s i 0) ≡ take (i + 1) s ++ drop (i + 1) d
-copied_more s d out i h k e =
-    let l : length (take i s) ≡ i = length-take-le i s (omega arith) in
-    rw (e, add-one, take-suc s i 0, drop-cons d i 0)
-    (set_at (take i s) (get_or d i 0) (drop (suc i) d) (get_or s i 0) i l ∙ sym (append_snoc (take i s) (get_or s i 0) (drop (suc i) d)))
-
-pub copied_all : (s d out : List ℕ) (i n : ℕ) → i ≤ n → n ≤ i → out ≡ take i s ++ drop i d → out ≡ take n s ++ drop n d
-copied_all s d out i n h k e = let same : i ≡ n = omega arith in e ∙ ap (λ (m : ℕ). take m s ++ drop m d) same
-
--- one chunk
-
-module _ (s out : List ℕ) (p n : ℕ) (k : Kind) (b : Bool) (name : n ≡ word s p) (kind : k ≡ kind_of n) (asked : b ≡ is_group k) where
-  says : (v : Bool) → b ≡ v → is_group (kind_of (word s p)) ≡ v
-  says v i = cc
-
-  pub group_next_place : b ≡ true → p + 12 ≡ following s p
-  group_next_place i = rw (says true i)
-
-  pub group_no_pad : b ≡ true → out ≡ pad_zeroed s p out
-  group_no_pad i = rw (says true i)
-
-  module _ (i : b ≡ false) (z : ℕ) (size : z ≡ word s (p + 4)) where
-    leaf-following : following s p ≡ p + 8 + z + z % 2
-    leaf-following = rw (says false i, size)
-
-    pub even_next : z % 2 ≡ 0 → p + 8 + z ≡ following s p
-    even_next y = omega (arith, leaf-following)
-
-    pub even_no_pad : z % 2 ≡ 0 → out ≡ pad_zeroed s p out
-    even_no_pad y = rw (says false i, ← size, eq-eqb (z % 2) 0 y)
-
-    pub odd_next : (z % 2 ≡ 0 → ⊥) → p + 9 + z ≡ following s p
-    odd_next y = let o : z % 2 ≡ 1 = omega arith in omega (arith, leaf-following)
-
-    pub odd_pad : (z % 2 ≡ 0 → ⊥) → set out (p + 8 + z) 0 ≡ pad_zeroed s p out
-    odd_pad y = rw (says false i, ← size, ne_eqb (z % 2) 0 y)
-
-    pub odd_room : (m : ℕ) → (z % 2 ≡ 0 → ⊥) → following s p ≤ m → p + 8 + z < m
-    odd_room m y r = let o : z % 2 ≡ 1 = omega arith in omega (arith, leaf-following)
-
-pub ruleset pad_laws = (group_next_place, group_no_pad, even_next, even_no_pad, odd_next, odd_pad, odd_room)
+use Rattle.iff_refusal.specs.declared.Reason.TheVariants.{NoRoom}
+use Rattle.iff_refusal.specs.declared.Refusal.{Refusal}
+use Rattle.iff_refusal.specs.Numbers.{Answer, refusal}
+use Rattle.iff_tree.specs.declared.Accepted.{Accepted}
+use Rattle.std.specs.Prelude.{Ok, Err}
 
 -- all chunks
 
@@ -161,13 +116,13 @@ module _ (s : List ℕ) (e : ℕ) (f : Sound s e) where
   pub sound_room : e ≤ length s
   sound_room = f.start.room
 
-  pub refused_room : (m : ℕ) → m < e → Refused 32 0 ≡ copy_of s m
-  refused_room m h = rw (f.read, sound_length, lt-ltb m e h)
+  pub refused_room : (m : ℕ) (r : Refusal) → r ≡ refusal NoRoom 0 → m < e → Err r ≡ copy_of s m
+  refused_room m r i h = rw (i, f.read, sound_length, lt-ltb m e h)
 
   pub refused_same : (out : List ℕ) → length out < e → out ≡ copied_into s out
   refused_same out h = rw (f.read, sound_length, lt-ltb (length out) e h)
 
-  pub written_length : (m : ℕ) → e ≤ m → Written e ≡ copy_of s m
+  pub written_length : (m : ℕ) → e ≤ m → Ok e ≡ copy_of s m
   written_length m h = rw (f.read, sound_length, le-ltb m e h)
 
   sound_copy : (out : List ℕ) → e ≤ length out → copied_into s out ≡ clean_bytes f.chunk ++ drop e out
@@ -204,21 +159,6 @@ pub ruleset cleaning_laws = (cleaning_start, cleaning_next, cleaning_less, clean
 
 -- the answer of the check
 
-refused_by : (s : List ℕ) (k q : ℕ) → verdict.Refused k q ≡ check_of s → read_file s ≡ refused k q
-refused_by s k q e = go (read_file s) e
-  where
-    go : (r : Found Chunk) → verdict.Refused k q ≡ verdict_of s r → r ≡ refused k q
-    go (found c) i = let z : ◌≡◌ {A = ℕ} 0 1 = cc in absurd (omega arith)
-    go (refused j p) i = let a : j ≡ k = cc in let b : p ≡ q = cc in cc
-
-module _ (s : List ℕ) (v : Verdict) (is : v ≡ check_of s) where
-  pub refused_answer : (k q m : ℕ) → v ≡ verdict.Refused k q → Refused k q ≡ copy_of s m
-  refused_answer k q m i = rw (refused_by s k q (sym i ∙ is))
-
-  pub refused_buffer : (k q : ℕ) (out : List ℕ) → v ≡ verdict.Refused k q → out ≡ copied_into s out
-  refused_buffer k q out i = rw (refused_by s k q (sym i ∙ is))
-
-  pub accepted_file : Bytes s → (n e t : ℕ) → v ≡ verdict.Accepted n e t → Sound s e
-  accepted_file b n e t i = accepted_sound s b n e t (sym is ∙ i)
-
-pub ruleset answer_laws = (refused_answer, refused_buffer)
+module _ (s : List ℕ) (v : Answer Accepted) (is : v ≡ check_of s) where
+  pub accepted_file : Bytes s → (a : Accepted) → v ≡ Ok a → Sound s a.end
+  accepted_file b a i = accepted_sound s b a (sym is ∙ i)

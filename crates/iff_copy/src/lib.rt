@@ -7,25 +7,14 @@ ghost use Rattle.iff_walk.specs.Coming.{Sound};
 ghost use Rattle.iff_copy.specs.Clean.{copy_of, copied_into};
 ghost use Rattle.iff_copy.specs.Pads.{pad_zeroed};
 
-use iff_tree::Verdict;
-
-// The length of the copy, or the number and place of a refusal.
-#[derive(Clone, Copy)]
-pub enum Copied {
-    Written(usize),
-    Refused { number: usize, place: usize },
-}
+use iff_refusal::{Reason, Refusal};
 
 // Copies the first n bytes.
 fn copy_bytes(s: &[u8], n: usize, out: &mut [u8])
     requires { (n ≤ length s.now) × (n ≤ length out.old) }
     ensures { out.new ≡ take n s.now ++ drop n out.old }
 {
-    let mut i = 0;
-    while i < n {
-        out[i] = s[i];
-        i += 1;
-    }
+    out[..n].copy_from_slice(&s[..n]);
 }
 
 // Makes the pad of the chunk at p zero, if it has one; gives the place of the next chunk in file order.
@@ -57,34 +46,24 @@ fn zero_pads(s: &[u8], end: usize, out: &mut [u8])
 }
 
 // The copy of a sound file that ends at `end`.
-fn copy_sound(s: &[u8], end: usize, out: &mut [u8]) -> Copied
+fn copy_sound(s: &[u8], end: usize, out: &mut [u8]) -> Result<usize, Refusal>
     requires { Sound s.now end }
     ensures is { result ≡ copy_of s.now (length out.old) }
     ensures copied { out.new ≡ copied_into s.now out.old }
 {
     if out.len() < end {
-        return Copied::Refused {
-            number: 32,
-            place: 0,
-        };
+        return Err(Reason::NoRoom.at(0));
     }
     copy_bytes(s, end, out);
     zero_pads(s, end, out);
-    Copied::Written(end)
+    Ok(end)
 }
 
 // Writes the clean copy of a file into `out`. A refusal leaves `out` as it was, as do bytes after the copy.
-pub fn clean_copy(s: &[u8], out: &mut [u8]) -> Copied
+pub fn clean_copy(s: &[u8], out: &mut [u8]) -> Result<usize, Refusal>
     ensures is { result ≡ copy_of s.now (length out.old) }
     ensures copied { out.new ≡ copied_into s.now out.old }
 {
-    let v = iff_tree::check(s);
-    match v {
-        Verdict::Accepted {
-            chunks: _,
-            end,
-            trailing: _,
-        } => copy_sound(s, end, out),
-        Verdict::Refused { number, place } => Copied::Refused { number, place },
-    }
+    let accepted = iff_tree::check(s)?;
+    copy_sound(s, accepted.end, out)
 }

@@ -3,7 +3,7 @@
 use Rattle.std.specs.Prelude.{◌%◌, ◌<◌, ◌≡◌, true, false, length}
 use Rattle.iff_name.specs.Codes.{PROP}
 use Rattle.iff_name.specs.Name.{kind_of}
-use Rattle.iff_chunk.specs.Chunks.{Chunks, none, leaf, group, bytes}
+use Rattle.iff_chunk.specs.Chunks.{Chunks, none, leaf, group}
 use Rattle.iff_rules.specs.Rules.{is_group}
 
 -- chunks of which none is a group

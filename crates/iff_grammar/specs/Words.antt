@@ -1,6 +1,5 @@
 -- A name or a size as four bytes and back: what a word written at a place reads as, and what bytes read as a word are written as.
 use Rattle.std.specs.Prelude.{ℕ, ◌<◌, List, get_or}
-use Rattle.std.proofs.Math.Seq.{slice}
 
 -- bytes, as a slice of u8 has them
 abbrev pub Bytes : List ℕ → Type 0

@@ -9,13 +9,13 @@ ghost use Rattle.iff_header.specs.Checks.{group_header_of, sized_header_of, head
 
 use iff_chunk::{name_at, size_at};
 use iff_name::Kind;
+use iff_refusal::Reason;
 use iff_repeated_props::second_prop;
 use iff_rules::{Position, group_type, is_group, misplaced};
 
-// A header: refused with a number, of a chunk with so much data, or of a group with its size.
+// A header that passes: of a chunk with so much data, or of a group with its size.
 #[derive(Clone, Copy)]
 pub enum Header {
-    Refused(usize),
     Leaf(usize),
     Group(Kind, usize),
 }
@@ -29,25 +29,25 @@ fn group_header(
     p: usize,
     levels: usize,
     fresh: usize,
-) -> Header
+) -> Result<Header, Reason>
     requires { (p + 8 + z ≤ length s.now) × (k ≡ kind_of (word s.now p)) × Settled s.now from p fresh }
     ensures is { result ≡ group_header_of levels s.now from k z p }
     ensures opened { Opened levels k z result }
 {
     if levels == 0 {
-        return Header::Refused(9);
+        return Err(Reason::TooDeep);
     }
     if z < 4 {
-        return Header::Refused(10);
+        return Err(Reason::GroupTooShort);
     }
     let t = name_at(s, p + 8);
     if group_type(k, t) {
         if second_prop(s, k, from, p, t, fresh) {
-            return Header::Refused(12);
+            return Err(Reason::SecondProp);
         }
-        return Header::Group(k, z);
+        return Ok(Header::Group(k, z));
     }
-    Header::Refused(11)
+    Err(Reason::BadType)
 }
 
 // The checks 7 to 12, of the chunk of kind k at p, whose parent ends at e and has its members from `from` on.
@@ -59,7 +59,7 @@ fn sized_header(
     e: usize,
     levels: usize,
     fresh: usize,
-) -> Header
+) -> Result<Header, Reason>
     requires { (p + 8 ≤ e) × (e ≤ length s.now) × (k ≡ kind_of (word s.now p)) × Settled s.now from p fresh }
     ensures is { result ≡ sized_header_of levels s.now from k p e }
     ensures fitting { Fitting levels s.now p e result }
@@ -67,15 +67,15 @@ fn sized_header(
     let room = e - p - 8;
     let z = size_at(s, p + 4);
     if room < z {
-        return Header::Refused(7);
+        return Err(Reason::SizeTooGreat);
     }
     if room < (z + 1) / 2 * 2 {
-        return Header::Refused(8);
+        return Err(Reason::NoPad);
     }
     if is_group(k) {
         return group_header(s, from, k, z, p, levels, fresh);
     }
-    Header::Leaf(z)
+    Ok(Header::Leaf(z))
 }
 
 // The checks of the chunk at p.
@@ -87,24 +87,24 @@ pub fn judge_header(
     e: usize,
     levels: usize,
     fresh: usize,
-) -> Header
+) -> Result<Header, Reason>
     requires { (p ≤ e) × (e ≤ length s.now) × Settled s.now from p fresh }
     ensures is { result ≡ header_of levels s.now from w p e }
     ensures fitting { Fitting levels s.now p e result }
 {
     if e - p < 8 {
-        return Header::Refused(4);
+        return Err(Reason::HeaderCut);
     }
     let n = name_at(s, p);
     if n.is_well_formed() {
         if n.is_version() {
-            return Header::Refused(3);
+            return Err(Reason::VersionName);
         }
         let k = n.kind();
         if misplaced(w, n, k) {
-            return Header::Refused(6);
+            return Err(Reason::Misplaced);
         }
         return sized_header(s, from, k, p, e, levels, fresh);
     }
-    Header::Refused(5)
+    Err(Reason::BadName)
 }

@@ -16,13 +16,13 @@ ghost use Rattle.iff_name.specs.Name.{
 };
 
 // A name as one number, its first byte the highest. Names are compared exactly, case included.
-#[derive(Clone, Copy)]
+#[derive(Clone, Copy, Debug, PartialEq, Eq)]
 pub struct Name {
     pub code: u32,
 }
 
 // What a chunk's name makes of the chunk.
-#[derive(Clone, Copy)]
+#[derive(Clone, Copy, Debug, PartialEq, Eq)]
 pub enum Kind {
     FORM,
     LIST,
@@ -32,19 +32,19 @@ pub enum Kind {
     FILLER,
 }
 
-fn printable(b: u32) -> bool
+fn printable(b: u8) -> bool
     ensures { result ≡ printable b }
 {
     (32 <= b) & (b <= 126)
 }
 
-fn space_then(b: u32, next: u32) -> bool
+fn space_then(b: u8, next: u8) -> bool
     ensures { result ≡ space_then b next }
 {
     (b != 32) | (next == 32)
 }
 
-fn type_byte(b: u32) -> bool
+fn type_byte(b: u8) -> bool
     ensures { result ≡ type_byte b }
 {
     ((65 <= b) & (b <= 90)) | (((48 <= b) & (b <= 57)) | (b == 32))
@@ -73,16 +73,13 @@ impl Name {
     pub fn is_well_formed(self) -> bool
         ensures { result ≡ well_formed self.code }
     {
-        let n = self.code;
-        let a = n / 16777216;
-        let b = n / 65536 % 256;
-        let c = n / 256 % 256;
-        let d = n % 256;
+        let [a, b, c, d] = self.code.to_be_bytes();
         ((printable(a) & printable(b)) & (printable(c) & printable(d)))
             & (space_then(a, b) & (space_then(b, c) & space_then(c, d)))
     }
 
     // FOR1 to FOR9, LIS1 to LIS9, CAT1 to CAT9.
+    #[tactic(auto, unfolding(crate::specs::Name::version_name))]
     pub fn is_version(self) -> bool
         ensures { result ≡ version_name self.code }
     {
@@ -96,50 +93,41 @@ impl Name {
     fn has_type_bytes(self) -> bool
         ensures { result ≡ type_bytes self.code }
     {
-        let n = self.code;
-        let a = n / 16777216;
-        let b = n / 65536 % 256;
-        let c = n / 256 % 256;
-        let d = n % 256;
+        let [a, b, c, d] = self.code.to_be_bytes();
         (type_byte(a) & type_byte(b)) & (type_byte(c) & type_byte(d))
     }
 
     // A group's name, the filler or JJJJ.
+    #[tactic(auto, unfolding(crate::specs::Name::reserved_name))]
     fn is_reserved(self) -> bool
         ensures { result ≡ reserved_name self.code }
     {
-        let n = self.code;
-        ((n == Name::FORM.code) | ((n == Name::LIST.code) | (n == Name::CAT.code)))
-            | ((n == Name::PROP.code) | ((n == Name::JJJJ.code) | (n == Name::FILLER.code)))
+        matches!(
+            self,
+            Name::FORM | Name::LIST | Name::CAT | Name::PROP | Name::JJJJ | Name::FILLER
+        )
     }
 
     // A name that may be the type of a FORM or PROP.
+    #[tactic(auto, unfolding(crate::specs::Name::type_name))]
     pub fn is_type(self) -> bool
         ensures { result ≡ type_name self.code }
     {
         (self.is_well_formed() & self.has_type_bytes()) & (!self.is_reserved() & !self.is_version())
     }
 
+    #[tactic(auto, unfolding(crate::specs::Name::kind_of))]
     pub fn kind(self) -> Kind
         ensures { result ≡ kind_of self.code }
     {
-        let n = self.code;
-        if n == Name::FORM.code {
-            return Kind::FORM;
+        match self {
+            Name::FORM => Kind::FORM,
+            Name::LIST => Kind::LIST,
+            Name::CAT => Kind::CAT,
+            Name::PROP => Kind::PROP,
+            Name::FILLER => Kind::FILLER,
+            _ => Kind::LOCAL,
         }
-        if n == Name::LIST.code {
-            return Kind::LIST;
-        }
-        if n == Name::CAT.code {
-            return Kind::CAT;
-        }
-        if n == Name::PROP.code {
-            return Kind::PROP;
-        }
-        if n == Name::FILLER.code {
-            return Kind::FILLER;
-        }
-        Kind::LOCAL
     }
 }
 

@@ -25,7 +25,7 @@ fn prop_at(s: &[u8], p: usize, t: Name) -> bool
     requires { p + 12 ≤ length s.now }
     ensures { result ≡ prop_at s.now p t.code }
 {
-    (name_at(s, p).code == Name::PROP.code) & (name_at(s, p + 8).code == t.code)
+    (name_at(s, p) == Name::PROP) & (name_at(s, p + 8) == t)
 }
 
 // Whether a PROP of type t stands from `from` on and before p.
@@ -50,10 +50,8 @@ fn fresh_before(s: &[u8], from: usize, limit: usize) -> usize
     ensures { Fresh s.now from result }
 {
     let mut r = fresh_in_class(s, from, limit, 75);
-    let mut class = 0;
-    while class < 75 {
+    for class in 0..75 {
         r = fresh_in_class(s, from, r, class);
-        class = class + 1;
     }
     r
 }
@@ -66,8 +64,8 @@ fn prop_run(s: &[u8], from: usize, limit: usize) -> Run
     let mut q = from;
     let mut chunks: usize = 0;
     while q < limit {
-        let n = name_at(s, q).code;
-        if (n != Name::PROP.code) & (n != Name::FILLER.code) {
+        let n = name_at(s, q);
+        if (n != Name::PROP) & (n != Name::FILLER) {
             return Run { end: q, chunks };
         }
         q = next_at(s, q);

@@ -13,11 +13,11 @@ ghost use Rattle.iff_rules.specs.Rules.{
   group_type,
 };
 
-use iff_name::{Kind, Name, kind_number};
+use iff_name::{Kind, Name};
 
 // Where a chunk stands: by itself, in a FORM, in a PROP, in a LIST with no FORM, LIST or CAT before it,
 // or in a CAT or the rest of a LIST.
-#[derive(Clone, Copy)]
+#[derive(Clone, Copy, Debug, PartialEq, Eq)]
 pub enum Position {
     Outermost,
     InForm,
@@ -29,25 +29,24 @@ pub enum Position {
 pub fn is_group(k: Kind) -> bool
     ensures { result ≡ is_group k }
 {
-    kind_number(k) <= 4
+    matches!(k, Kind::FORM | Kind::LIST | Kind::CAT | Kind::PROP)
 }
 
 pub fn is_section(k: Kind) -> bool
     ensures { result ≡ is_section k }
 {
-    kind_number(k) <= 3
+    matches!(k, Kind::FORM | Kind::LIST | Kind::CAT)
 }
 
 fn allowed(w: Position, k: Kind) -> bool
     ensures { result ≡ allowed w k }
 {
-    let n = kind_number(k);
     match w {
-        Position::Outermost => n <= 3,
-        Position::InForm => n != 4,
-        Position::InProp => 5 <= n,
-        Position::InList => n != 5,
-        Position::InCat => (n != 4) & (n != 5),
+        Position::Outermost => is_section(k),
+        Position::InForm => k != Kind::PROP,
+        Position::InProp => matches!(k, Kind::LOCAL | Kind::FILLER),
+        Position::InList => k != Kind::LOCAL,
+        Position::InCat => (k != Kind::PROP) & (k != Kind::LOCAL),
     }
 }
 
@@ -55,7 +54,7 @@ pub fn misplaced(w: Position, n: Name, k: Kind) -> bool
     requires { k ≡ kind_of n.code }
     ensures { result ≡ misplaced w n.code }
 {
-    (n.code == Name::JJJJ.code) | !allowed(w, k)
+    (n == Name::JJJJ) | !allowed(w, k)
 }
 
 pub fn inside(k: Kind) -> Position
@@ -87,10 +86,9 @@ pub fn after(w: Position, k: Kind) -> Position
 pub fn group_type(k: Kind, t: Name) -> bool
     ensures { result ≡ group_type k t.code }
 {
-    let n = kind_number(k);
-    if (n == 1) | (n == 4) {
-        t.is_type()
-    } else {
-        (n <= 3) & t.is_well_formed()
+    match k {
+        Kind::FORM | Kind::PROP => t.is_type(),
+        Kind::LIST | Kind::CAT => t.is_well_formed(),
+        Kind::LOCAL | Kind::FILLER => false,
     }
 }

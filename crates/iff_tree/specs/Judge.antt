@@ -6,21 +6,20 @@ use Rattle.iff_name.specs.declared.Kind.{Kind}
 use Rattle.iff_rules.specs.declared.Position.{Position}
 use Rattle.iff_rules.specs.declared.Position.TheVariants.{Outermost}
 use Rattle.iff_header.specs.declared.Header.{Header}
-use Rattle.iff_header.specs.declared.Header.TheVariants.{Refused as Header-refused, Leaf, Group}
-use Rattle.iff_tree.specs.declared.Step.{Step}
-use Rattle.iff_tree.specs.declared.Step.TheVariants.{Next, Refused as Step-refused}
-use Rattle.iff_tree.specs.declared.Walked.{Walked}
-use Rattle.iff_tree.specs.declared.Walked.TheVariants.{Whole, Refused as Walked-refused}
-use Rattle.iff_tree.specs.declared.Verdict.{Verdict}
-use Rattle.iff_tree.specs.declared.Verdict.TheVariants.{Accepted, Refused}
+use Rattle.iff_header.specs.declared.Header.TheVariants.{Leaf, Group}
 use Rattle.iff_chunk.specs.Chunks.{Chunks, none, Chunk, a_leaf, a_group, before, count, word, next_at}
 use Rattle.iff_rules.specs.Rules.{is_section, inside, after}
 use Rattle.iff_header.specs.Checks.{header_of}
+use Rattle.iff_refusal.specs.declared.Reason.TheVariants.{FileTooLong, NotIff, VersionName, TooDeep}
+use Rattle.iff_refusal.specs.declared.Reason.{Reason}
+use Rattle.iff_refusal.specs.Numbers.{Answer, refusing}
+use Rattle.iff_tree.specs.declared.Accepted.{Accepted}
+use Rattle.std.specs.Prelude.{Ok, Err, Result}
 
--- What reading finds: it is sound, or the number and the place of a refusal.
+-- What reading finds: it is sound, or why it is refused and where.
 pub data Found (A : Type 0) : Type 0 where
   found : A → Found A
-  refused : ℕ → ℕ → Found A
+  refused : Reason → ℕ → Found A
 
 abbrev pub and_then : {A B : Type 0} → Found A → (A → Found B) → Found B
 and_then (found a) f = f a
@@ -35,14 +34,14 @@ run chunk s (suc fuel) w p e =
     (found none)
 
 -- The chunk whose header at p is h, where `members` finds the members of a group.
-abbrev pub by_header : Header → List ℕ → ℕ → (Kind → ℕ → Found Chunks) → Found Chunk
-by_header (Header-refused k) s p members = refused k p
-by_header (Leaf z) s p members = found (a_leaf (word s p) (slice (p + 8) (p + 8 + z) s) (slice (p + 8 + z) (p + 8 + z + z % 2) s))
-by_header (Group k z) s p members = and_then (members k z) (λ G. found (a_group (word s p) (word s (p + 8)) G))
+abbrev pub by_header : Result Header Reason → List ℕ → ℕ → (Kind → ℕ → Found Chunks) → Found Chunk
+by_header (Err k) s p members = refused k p
+by_header (Ok (Leaf z)) s p members = found (a_leaf (word s p) (slice (p + 8) (p + 8 + z) s) (slice (p + 8 + z) (p + 8 + z + z % 2) s))
+by_header (Ok (Group k z)) s p members = and_then (members k z) (λ G. found (a_group (word s p) (word s (p + 8)) G))
 
 -- The chunk at p, where `levels` more levels of groups may be opened.
 unfoldable pub chunk_at : ℕ → List ℕ → ℕ → Position → ℕ → ℕ → Found Chunk
-chunk_at zero s from w p e = by_header (header_of 0 s from w p e) s p (λ k z. refused 9 p)
+chunk_at zero s from w p e = by_header (header_of 0 s from w p e) s p (λ k z. refused TooDeep p)
 chunk_at (suc levels) s from w p e =
     by_header (header_of (suc levels) s from w p e) s p
     (λ k z. run (chunk_at levels s (p + 12)) s (p + 8 + z - (p + 12)) (inside k) (p + 12) (p + 8 + z))
@@ -55,38 +54,41 @@ members_of levels s from w p e = run (chunk_at levels s from) s (e - p) w p e
 -- name is 3; any other name but FORM, LIST, "CAT " is 2.", then the outermost chunk, whose parent ends with the file.
 unfoldable pub read_file : List ℕ → Found Chunk
 read_file s =
-    pick (ltb 16777216 (length s)) (refused 1 0)
-    (pick (ltb (length s) 4) (refused 2 0)
-    (pick (version_name (word s 0)) (refused 3 0)
+    pick (ltb 16777216 (length s)) (refused FileTooLong 0)
+    (pick (ltb (length s) 4) (refused NotIff 0)
+    (pick (version_name (word s 0)) (refused VersionName 0)
     (pick (is_section (kind_of (word s 0))) (chunk_at 16 s 0 Outermost 0 (length s))
-    (refused 2 0))))
+    (refused NotIff 0))))
 
 -- "Acceptance returns chunk count, end of the outermost chunk, trailing count." "A refusal returns the number and p".
-abbrev pub verdict_of : List ℕ → Found Chunk → Verdict
-verdict_of s (found c) = Accepted (count (before c none)) (next_at s 0) (length s - next_at s 0)
-verdict_of s (refused k p) = Refused k p
+abbrev pub accepting : ℕ → ℕ → ℕ → Answer Accepted
+accepting n e t = Ok (record { chunks = n; end = e; trailing = t })
 
-abbrev pub check_of : List ℕ → Verdict
+abbrev pub verdict_of : List ℕ → Found Chunk → Answer Accepted
+verdict_of s (found c) = accepting (count (before c none)) (next_at s 0) (length s - next_at s 0)
+verdict_of s (refused k p) = refusing k p
+
+abbrev pub check_of : List ℕ → Answer Accepted
 check_of s = verdict_of s (read_file s)
 
 -- What the walk over the bytes tells of a chunk at p, after n chunks: where the next one stands, how many chunks there are by then.
-abbrev pub step_of : List ℕ → Position → ℕ → ℕ → Found Chunk → Step
-step_of s w p n (found c) = Next (after w (kind_of (word s p))) (n + count (before c none)) (next_at s p)
-step_of s w p n (refused k q) = Step-refused k q
+abbrev pub step_of : List ℕ → Position → ℕ → ℕ → Found Chunk → Answer (Position × ℕ × ℕ)
+step_of s w p n (found c) = Ok ((after w (kind_of (word s p))), (n + count (before c none)), (next_at s p))
+step_of s w p n (refused k q) = refusing k q
 
 -- The same of all members of a group.
-abbrev pub walked_of : ℕ → Found Chunks → Walked
-walked_of n (found F) = Whole (n + count F)
-walked_of n (refused k q) = Walked-refused k q
+abbrev pub walked_of : ℕ → Found Chunks → Answer ℕ
+walked_of n (found F) = Ok (n + count F)
+walked_of n (refused k q) = refusing k q
 
 -- A chunk ends after it begins, inside its parent, and there are no more chunks than bytes.
-abbrev pub Ahead : ℕ → ℕ → Step → Type 0
-Ahead p e (Next w n q) = (p < q) × (q ≤ e) × (n ≤ q)
-Ahead p e (Step-refused k m) = Unit
+abbrev pub Ahead : ℕ → ℕ → Answer (Position × ℕ × ℕ) → Type 0
+Ahead p e (Ok (w, n, q)) = (p < q) × (q ≤ e) × (n ≤ q)
+Ahead p e (Err r) = Unit
 
-abbrev pub Counted : ℕ → Walked → Type 0
-Counted e (Whole n) = n ≤ e
-Counted e (Walked-refused k m) = Unit
+abbrev pub Counted : ℕ → Answer ℕ → Type 0
+Counted e (Ok n) = n ≤ e
+Counted e (Err r) = Unit
 
 -- The group of kind k and size z at p, where `levels` more levels may be opened inside it.
 abbrev pub group_of : ℕ → List ℕ → ℕ → Kind → ℕ → Found Chunk

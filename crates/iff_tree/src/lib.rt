@@ -20,36 +20,20 @@ ghost use Rattle.iff_tree.specs.Judge.{
 use iff_chunk::name_at;
 use iff_header::{Header, judge_header};
 use iff_name::Kind;
+use iff_refusal::{Reason, Refusal};
 use iff_repeated_props::fresh_in_group;
 use iff_rules::{Position, after, inside, is_section};
 
-// The answer of the check.
-#[derive(Clone, Copy)]
-pub enum Verdict {
-    Accepted {
-        chunks: usize,
-        end: usize,
-        trailing: usize,
-    },
-    Refused {
-        number: usize,
-        place: usize,
-    },
+// What the check tells of a file that it accepts.
+#[derive(Clone, Copy, Debug, PartialEq, Eq)]
+pub struct Accepted {
+    pub chunks: usize,
+    pub end: usize,
+    pub trailing: usize,
 }
 
-// After a chunk: the next one's position, the chunks so far and the next place; or a refusal.
-#[derive(Clone, Copy)]
-pub enum Step {
-    Next(Position, usize, usize),
-    Refused(usize, usize),
-}
-
-// After a group's members: the chunks so far; or a refusal.
-#[derive(Clone, Copy)]
-pub enum Walked {
-    Whole(usize),
-    Refused(usize, usize),
-}
+// After a chunk: the next one's position, the chunks so far and the next place.
+type Next = (Position, usize, usize);
 
 // The chunk at p, after n chunks.
 #[cycle(enter_group_member)]
@@ -62,16 +46,15 @@ fn member(
     levels: usize,
     n: usize,
     fresh: usize,
-) -> Step
+) -> Result<Next, Refusal>
     requires { (p ≤ e) × (e ≤ length s.now) × (n ≤ p) × Settled s.now from p fresh }
     ensures is { result ≡ step_of s.now w p n (chunk_at levels s.now from w p e) }
     ensures ahead { Ahead p e result }
 {
-    let h = judge_header(s, from, w, p, e, levels, fresh);
-    match h {
-        Header::Refused(number) => Step::Refused(number, p),
-        Header::Leaf(z) => Step::Next(w, n + 1, p + 8 + (z + 1) / 2 * 2),
-        Header::Group(k, z) => enter(s, w, k, z, p, e, levels, n),
+    match judge_header(s, from, w, p, e, levels, fresh) {
+        Err(reason) => Err(reason.at(p)),
+        Ok(Header::Leaf(z)) => Ok((w, n + 1, p + 8 + (z + 1) / 2 * 2)),
+        Ok(Header::Group(k, z)) => enter(s, w, k, z, p, e, levels, n),
     }
 }
 
@@ -86,21 +69,25 @@ fn enter(
     e: usize,
     levels: usize,
     n: usize,
-) -> Step
+) -> Result<Next, Refusal>
     requires { (GroupFits levels s.now p e k z) × (e ≤ length s.now) × (n ≤ p) }
     ensures is { result ≡ step_of s.now w p n (group_of (levels - 1) s.now p k z) }
     ensures ahead { Ahead p e result }
 {
-    let inner = group(s, inside(k), p + 12, p + 8 + z, levels - 1, n + 1);
-    match inner {
-        Walked::Whole(count) => Step::Next(after(w, k), count, p + 8 + (z + 1) / 2 * 2),
-        Walked::Refused(number, place) => Step::Refused(number, place),
-    }
+    let count = group(s, inside(k), p + 12, p + 8 + z, levels - 1, n + 1)?;
+    Ok((after(w, k), count, p + 8 + (z + 1) / 2 * 2))
 }
 
 // The members of a group, from `from` to e, after n chunks.
 #[cycle(enter_group_member)]
-fn group(s: &[u8], w: Position, from: usize, e: usize, levels: usize, n: usize) -> Walked
+fn group(
+    s: &[u8],
+    w: Position,
+    from: usize,
+    e: usize,
+    levels: usize,
+    n: usize,
+) -> Result<usize, Refusal>
     requires { (from ≤ e) × (e ≤ length s.now) × (n ≤ from) }
     ensures is { result ≡ walked_of n (members_of levels s.now from w from e) }
     ensures counted { Counted e result }
@@ -110,63 +97,39 @@ fn group(s: &[u8], w: Position, from: usize, e: usize, levels: usize, n: usize) 
     let mut count = n;
     let mut at = w;
     while p < e {
-        let v = member(s, from, at, p, e, levels, count, fresh);
-        match v {
-            Step::Next(next, so_far, q) => {
-                at = next;
-                count = so_far;
-                p = q;
-            }
-            Step::Refused(number, place) => {
-                return Walked::Refused(number, place);
-            }
-        }
+        (at, count, p) = member(s, from, at, p, e, levels, count, fresh)?;
     }
-    Walked::Whole(count)
+    Ok(count)
 }
 
-fn outermost(s: &[u8]) -> Verdict
+fn outermost(s: &[u8]) -> Result<Accepted, Refusal>
     ensures { result ≡ verdict_of s.now (chunk_at 16 s.now 0 Outermost 0 (length s.now)) }
 {
-    let v = member(s, 0, Position::Outermost, 0, s.len(), 16, 0, 0);
-    match v {
-        Step::Next(_, chunks, end) => Verdict::Accepted {
-            chunks,
-            end,
-            trailing: s.len() - end,
-        },
-        Step::Refused(number, place) => Verdict::Refused { number, place },
-    }
+    let (_, chunks, end) = member(s, 0, Position::Outermost, 0, s.len(), 16, 0, 0)?;
+    Ok(Accepted {
+        chunks,
+        end,
+        trailing: s.len() - end,
+    })
 }
 
-// Judges any bytes: the chunks, the end of the outermost one and the bytes after it, or the number and place of a refusal.
-pub fn check(s: &[u8]) -> Verdict
+// Judges any bytes: the chunks, the end of the outermost one and the bytes after it, or a refusal.
+#[tactic(auto, unfolding(crate::specs::Judge::read_file))]
+pub fn check(s: &[u8]) -> Result<Accepted, Refusal>
     ensures { result ≡ check_of s.now }
 {
     if 16777216 < s.len() {
-        return Verdict::Refused {
-            number: 1,
-            place: 0,
-        };
+        return Err(Reason::FileTooLong.at(0));
     }
     if s.len() < 4 {
-        return Verdict::Refused {
-            number: 2,
-            place: 0,
-        };
+        return Err(Reason::NotIff.at(0));
     }
     let n = name_at(s, 0);
     if n.is_version() {
-        return Verdict::Refused {
-            number: 3,
-            place: 0,
-        };
+        return Err(Reason::VersionName.at(0));
     }
     if is_section(n.kind()) {
         return outermost(s);
     }
-    Verdict::Refused {
-        number: 2,
-        place: 0,
-    }
+    Err(Reason::NotIff.at(0))
 }

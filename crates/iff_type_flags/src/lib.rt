@@ -49,7 +49,7 @@ fn in_class(s: &[u8], p: usize, class: usize) -> bool
     requires { p + 12 ≤ length s.now }
     ensures { result ≡ in_class class s.now p }
 {
-    if name_at(s, p).code == Name::PROP.code {
+    if name_at(s, p) == Name::PROP {
         class_of(name_at(s, p + 8)) == class
     } else {
         false

@@ -1,11 +1,10 @@
--- The refusals of colours that come before anything is read, as one number.
-use Rattle.std.specs.Prelude.{ℕ, eqb}
+-- The refusal of a mode.
+use Rattle.std.specs.Prelude.{ℕ, Result, Ok, Err}
+use Rattle.iff_refusal.specs.declared.Reason.{Reason}
+use Rattle.iff_refusal.specs.declared.Reason.TheVariants.{HoldPlanes}
 use Rattle.iff_name.specs.Name.{pick}
-use Rattle.ilbm_spec.specs.Pictures.{empty_fields, fields_refusal}
 use Rattle.ilbm_spec.specs.Colours.{wrong_planes}
 
--- 41, 42, 43 or 24 for the fields; then 46; or 0
-unfoldable pub colours_refusal : ℕ → ℕ → ℕ → ℕ → ℕ → ℕ → ℕ
-colours_refusal w h planes masking compression mode =
-    pick (eqb (fields_refusal planes masking compression (empty_fields w h planes)) 0) (pick (wrong_planes mode planes) 46 0)
-    (fields_refusal planes masking compression (empty_fields w h planes))
+-- 46, or none
+abbrev pub mode_refusal : ℕ → ℕ → Result (Unit {0}) Reason
+mode_refusal mode planes = pick (wrong_planes mode planes) (Err HoldPlanes) (Ok tt)

@@ -5,12 +5,12 @@ ghost use Rattle.std.specs.Prelude.{◌≡◌, false, ◌≤◌, length};
 ghost use Rattle.ilbm_spec.specs.Rows.{line_answer, frame_answer, bytes_after};
 ghost use Rattle.ilbm_spec.specs.Colours.{wrong_planes, body_colour_line, body_colour_frame};
 ghost use Rattle.ilbm_spec.specs.Colours.{colour_line_in_body, colour_frame_in_body};
-ghost use Rattle.ilbm_body_colours.specs.Refusals.{colours_refusal};
+ghost use Rattle.ilbm_body_colours.specs.Refusals.{mode_refusal};
 
+use iff_refusal::{Reason, Refusal};
 use ilbm_body_rows::{judge_fields, left_over};
 use ilbm_colour_rows::{coloured_frame, coloured_row};
 use ilbm_palette_colours::holds;
-use ilbm_spec::{FrameAnswer, LineAnswer};
 
 // Bit 11 with another number of planes than 6 and 8.
 fn wrong_planes(mode: u32, planes: u8) -> bool
@@ -25,18 +25,14 @@ fn wrong_planes(mode: u32, planes: u8) -> bool
     holds(mode)
 }
 
-// 41, 42, 43 or 24 for the fields of a BODY's header, then 46, or 0.
-fn colours_refusal(w: u16, h: u16, planes: u8, masking: u8, compression: u8, mode: u32) -> usize
-    ensures { result ≡ colours_refusal w h planes masking compression mode }
+// 46 for bit 11 with planes that it does not have, if any.
+fn judge_mode(mode: u32, planes: u8) -> Result<(), Reason>
+    ensures { result ≡ mode_refusal mode planes }
 {
-    let number = judge_fields(w, h, planes, masking, compression);
-    if number != 0 {
-        return number;
-    }
     if wrong_planes(mode, planes) {
-        return 46;
+        return Err(Reason::HoldPlanes);
     }
-    0
+    Ok(())
 }
 
 // A scan line by fields and a mode that pass.
@@ -50,7 +46,7 @@ fn sound_colour_line(
     palette: &[u8],
     start: usize,
     row: &mut [u8],
-) -> LineAnswer
+) -> Result<usize, Refusal>
     requires { (planes ≤ 8) × (wrong_planes mode planes ≡ false) }
     ensures answer { result ≡ line_answer
         (body_colour_line body.now w planes masking compression mode palette.now start (length row.old)) }
@@ -59,17 +55,11 @@ fn sound_colour_line(
         row.old }
 {
     if body.len() < start {
-        return LineAnswer::Refused {
-            number: 29,
-            place: 0,
-        };
+        return Err(Reason::BeyondBody.at(0));
     }
     let width = w as usize;
     if row.len() != 3 * width {
-        return LineAnswer::Refused {
-            number: 28,
-            place: 0,
-        };
+        return Err(Reason::WrongLength.at(0));
     }
     coloured_row(
         body,
@@ -95,7 +85,7 @@ pub fn colour_line_in_body(
     palette: &[u8],
     start: usize,
     row: &mut [u8],
-) -> LineAnswer
+) -> Result<usize, Refusal>
     ensures answer { result ≡ line_answer
         (colour_line_in_body body.now w planes masking compression mode palette.now start
         (length row.old)) }
@@ -103,10 +93,8 @@ pub fn colour_line_in_body(
         (colour_line_in_body body.now w planes masking compression mode palette.now start (length row.old))
         row.old }
 {
-    let number = colours_refusal(w, 1, planes, masking, compression, mode);
-    if number != 0 {
-        return LineAnswer::Refused { number, place: 0 };
-    }
+    judge_fields(w, 1, planes, masking, compression)?;
+    judge_mode(mode, planes)?;
     sound_colour_line(
         body,
         w,
@@ -131,7 +119,7 @@ fn sound_colour_frame(
     mode: u32,
     palette: &[u8],
     frame: &mut [u8],
-) -> FrameAnswer
+) -> Result<usize, Refusal>
     requires { (planes ≤ 8) × (wrong_planes mode planes ≡ false) }
     ensures answer { result ≡ frame_answer
         (body_colour_frame body.now w h planes masking compression mode palette.now (length frame.old)) }
@@ -142,12 +130,9 @@ fn sound_colour_frame(
     let width = w as usize;
     let height = h as usize;
     if frame.len() != 3 * width * height {
-        return FrameAnswer::Refused {
-            number: 28,
-            place: 0,
-        };
+        return Err(Reason::WrongLength.at(0));
     }
-    let scanned = coloured_frame(
+    let end = coloured_frame(
         body,
         width,
         height,
@@ -157,11 +142,8 @@ fn sound_colour_frame(
         mode,
         palette,
         frame,
-    );
-    match scanned {
-        LineAnswer::Next(end) => FrameAnswer::Leftover(left_over(body.len(), end)),
-        LineAnswer::Refused { number, place } => FrameAnswer::Refused { number, place },
-    }
+    )?;
+    Ok(left_over(body.len(), end))
 }
 
 // Red, green and blue of all pixels, and how many bytes of the BODY are left; a refusal leaves the frame as it was.
@@ -175,17 +157,15 @@ pub fn colour_frame_in_body(
     mode: u32,
     palette: &[u8],
     frame: &mut [u8],
-) -> FrameAnswer
+) -> Result<usize, Refusal>
     ensures answer { result ≡ frame_answer
         (colour_frame_in_body body.now w h planes masking compression mode palette.now (length frame.old)) }
     ensures bytes { frame.new ≡ bytes_after
         (colour_frame_in_body body.now w h planes masking compression mode palette.now (length frame.old))
         frame.old }
 {
-    let number = colours_refusal(w, h, planes, masking, compression, mode);
-    if number != 0 {
-        return FrameAnswer::Refused { number, place: 0 };
-    }
+    judge_fields(w, h, planes, masking, compression)?;
+    judge_mode(mode, planes)?;
     sound_colour_frame(
         body,
         w,

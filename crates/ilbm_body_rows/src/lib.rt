@@ -1,14 +1,14 @@
 // The scan line and the frame of any bytes as a BODY, by its header's numbers.
 #![tactic(auto)]
 
-ghost use Rattle.std.specs.Prelude.{◌≡◌, ◌-◌, ◌≤◌, length};
+ghost use Rattle.std.specs.Prelude.{◌≡◌, ◌-◌, ◌≤◌, length, OnOk};
 ghost use Rattle.ilbm_spec.specs.Pictures.{empty_fields, fields_refusal};
 ghost use Rattle.ilbm_spec.specs.Rows.{body_line, body_frame, line_in_body, frame_in_body, line_answer, frame_answer, bytes_after};
 
+use iff_refusal::{Reason, Refusal};
 use ilbm_fields::{empty_fields, fields_refusal};
 use ilbm_scan_frame::scan_frame;
 use ilbm_scan_line::scan_row;
-use ilbm_spec::{FrameAnswer, LineAnswer};
 
 // A scan line by fields that pass.
 fn sound_line(
@@ -19,7 +19,7 @@ fn sound_line(
     compression: u8,
     start: usize,
     row: &mut [u8],
-) -> LineAnswer
+) -> Result<usize, Refusal>
     requires { planes ≤ 8 }
     ensures answer { result
         ≡ line_answer (body_line body.now w planes masking compression start (length row.old)) }
@@ -27,17 +27,11 @@ fn sound_line(
         ≡ bytes_after (body_line body.now w planes masking compression start (length row.old)) row.old }
 {
     if body.len() < start {
-        return LineAnswer::Refused {
-            number: 29,
-            place: 0,
-        };
+        return Err(Reason::BeyondBody.at(0));
     }
     let width = w as usize;
     if row.len() != width {
-        return LineAnswer::Refused {
-            number: 28,
-            place: 0,
-        };
+        return Err(Reason::WrongLength.at(0));
     }
     scan_row(
         body,
@@ -50,9 +44,10 @@ fn sound_line(
     )
 }
 
-// 41, 42, 43 or 24 for the fields of a BODY's header, or 0.
-pub fn judge_fields(w: u16, h: u16, planes: u8, masking: u8, compression: u8) -> usize
-    ensures { result ≡ fields_refusal planes masking compression (empty_fields w h planes) }
+// 41, 42, 43 or 24 for the fields of a BODY's header, if any.
+pub fn judge_fields(w: u16, h: u16, planes: u8, masking: u8, compression: u8) -> Result<(), Reason>
+    ensures answer { result ≡ fields_refusal planes masking compression (empty_fields w h planes) }
+    ensures few_planes { OnOk result (planes ≤ 8) }
 {
     let empty = empty_fields(w, h, planes);
     fields_refusal(planes, masking, compression, empty)
@@ -67,16 +62,13 @@ pub fn line_in_body(
     compression: u8,
     start: usize,
     row: &mut [u8],
-) -> LineAnswer
+) -> Result<usize, Refusal>
     ensures answer { result
         ≡ line_answer (line_in_body body.now w planes masking compression start (length row.old)) }
     ensures bytes { row.new
         ≡ bytes_after (line_in_body body.now w planes masking compression start (length row.old)) row.old }
 {
-    let number = judge_fields(w, 1, planes, masking, compression);
-    if number != 0 {
-        return LineAnswer::Refused { number, place: 0 };
-    }
+    judge_fields(w, 1, planes, masking, compression)?;
     sound_line(body, w, planes, masking, compression, start, row)
 }
 
@@ -96,7 +88,7 @@ fn sound_frame(
     masking: u8,
     compression: u8,
     frame: &mut [u8],
-) -> FrameAnswer
+) -> Result<usize, Refusal>
     requires { planes ≤ 8 }
     ensures answer { result
         ≡ frame_answer (body_frame body.now w h planes masking compression (length frame.old)) }
@@ -106,12 +98,9 @@ fn sound_frame(
     let width = w as usize;
     let height = h as usize;
     if frame.len() != width * height {
-        return FrameAnswer::Refused {
-            number: 28,
-            place: 0,
-        };
+        return Err(Reason::WrongLength.at(0));
     }
-    let scanned = scan_frame(
+    let end = scan_frame(
         body,
         width,
         height,
@@ -119,11 +108,8 @@ fn sound_frame(
         masking,
         compression,
         frame,
-    );
-    match scanned {
-        LineAnswer::Next(end) => FrameAnswer::Leftover(left_over(body.len(), end)),
-        LineAnswer::Refused { number, place } => FrameAnswer::Refused { number, place },
-    }
+    )?;
+    Ok(left_over(body.len(), end))
 }
 
 // The colour numbers of all scan lines, and how many bytes of the BODY are left; a refusal leaves the frame as it was.
@@ -135,15 +121,12 @@ pub fn frame_in_body(
     masking: u8,
     compression: u8,
     frame: &mut [u8],
-) -> FrameAnswer
+) -> Result<usize, Refusal>
     ensures answer { result
         ≡ frame_answer (frame_in_body body.now w h planes masking compression (length frame.old)) }
     ensures bytes { frame.new
         ≡ bytes_after (frame_in_body body.now w h planes masking compression (length frame.old)) frame.old }
 {
-    let number = judge_fields(w, h, planes, masking, compression);
-    if number != 0 {
-        return FrameAnswer::Refused { number, place: 0 };
-    }
+    judge_fields(w, h, planes, masking, compression)?;
     sound_frame(body, w, h, planes, masking, compression, frame)
 }

@@ -1,8 +1,9 @@
--- 28 and 44 as one number, by the definitions that give them.
-use Rattle.std.specs.Prelude.{ℕ, ◌≡◌, Bool}
-use Rattle.ilbm_spec.specs.Rows.{Read, right_length, on_fields}
-use Rattle.ilbm_spec.specs.Shapes.{Shaped, shape_asked}
+-- 28 and 44 as one check.
+use Rattle.std.specs.Prelude.{ℕ, Bool, not, eqb, Result, Ok, Err}
+use Rattle.iff_name.specs.Name.{pick}
+use Rattle.iff_refusal.specs.declared.Reason.{Reason}
+use Rattle.iff_refusal.specs.declared.Reason.TheVariants.{WrongLength, NoShape}
 
--- whatever is read, this number refuses it or is 0 as the lengths and the masking say
-pub record Refuses (n : ℕ) (right : Bool) (masking : ℕ) : Type 0 where
-  pub settles : (rows : Read Shaped) → on_fields n rows ≡ right_length right (shape_asked masking rows)
+-- wrong lengths come first, then masking 3
+abbrev pub shape_refusal : Bool → ℕ → Result (Unit {0}) Reason
+shape_refusal right masking = pick (not right) (Err WrongLength) (pick (eqb masking 3) (Err NoShape) (Ok tt))

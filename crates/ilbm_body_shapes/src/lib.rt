@@ -5,12 +5,12 @@ ghost use Rattle.std.specs.Prelude.{◌≡◌, ◌≤◌, eqb, length};
 ghost use Rattle.iff_name.specs.Name.{both};
 ghost use Rattle.ilbm_spec.specs.Rows.{line_answer, frame_answer};
 ghost use Rattle.ilbm_spec.specs.Shapes.{body_shape_line, body_shape_frame, shape_line_in_body, shape_frame_in_body, colours_after, shape_after};
-ghost use Rattle.ilbm_body_shapes.specs.Refusals.{Refuses};
+ghost use Rattle.ilbm_body_shapes.specs.Refusals.{shape_refusal};
 
+use iff_refusal::{Reason, Refusal};
 use ilbm_body_rows::{judge_fields, left_over};
 use ilbm_shape_frame::scan_shaped_frame;
 use ilbm_shape_line::scan_shaped_row;
-use ilbm_spec::{FrameAnswer, LineAnswer};
 
 // Whether colours and shape have a byte for each pixel.
 fn both_right(colours: usize, shape: usize, pixels: usize) -> bool
@@ -19,17 +19,17 @@ fn both_right(colours: usize, shape: usize, pixels: usize) -> bool
     (colours == pixels) & (shape == pixels)
 }
 
-// 28 for wrong lengths, 44 for masking 3, or 0.
-fn shape_refusal(right: bool, masking: u8) -> usize
-    ensures { Refuses result right masking }
+// 28 for wrong lengths, 44 for masking 3, if any.
+fn shape_refusal(right: bool, masking: u8) -> Result<(), Reason>
+    ensures { result ≡ shape_refusal right masking }
 {
     if !right {
-        return 28;
+        return Err(Reason::WrongLength);
     }
     if masking == 3 {
-        return 44;
+        return Err(Reason::NoShape);
     }
-    0
+    Ok(())
 }
 
 // A scan line by fields that pass.
@@ -43,7 +43,7 @@ fn sound_shape_line(
     start: usize,
     row: &mut [u8],
     shape: &mut [u8],
-) -> LineAnswer
+) -> Result<usize, Refusal>
     requires { planes ≤ 8 }
     ensures answer { result ≡ line_answer
         (body_shape_line body.now w planes masking compression transparent start
@@ -56,17 +56,11 @@ fn sound_shape_line(
         (length row.old) (length shape.old)) shape.old }
 {
     if body.len() < start {
-        return LineAnswer::Refused {
-            number: 29,
-            place: 0,
-        };
+        return Err(Reason::BeyondBody.at(0));
     }
     let width = w as usize;
     let right = both_right(row.len(), shape.len(), width);
-    let number = shape_refusal(right, masking);
-    if number != 0 {
-        return LineAnswer::Refused { number, place: 0 };
-    }
+    shape_refusal(right, masking)?;
     scan_shaped_row(
         body,
         start,
@@ -92,7 +86,7 @@ pub fn shape_line_in_body(
     start: usize,
     row: &mut [u8],
     shape: &mut [u8],
-) -> LineAnswer
+) -> Result<usize, Refusal>
     ensures answer { result ≡ line_answer
         (shape_line_in_body body.now w planes masking compression transparent start
         (length row.old) (length shape.old)) }
@@ -103,10 +97,7 @@ pub fn shape_line_in_body(
         (shape_line_in_body body.now w planes masking compression transparent start
         (length row.old) (length shape.old)) shape.old }
 {
-    let number = judge_fields(w, 1, planes, masking, compression);
-    if number != 0 {
-        return LineAnswer::Refused { number, place: 0 };
-    }
+    judge_fields(w, 1, planes, masking, compression)?;
     sound_shape_line(
         body,
         w,
@@ -131,7 +122,7 @@ fn sound_shape_frame(
     transparent: u16,
     frame: &mut [u8],
     shape: &mut [u8],
-) -> FrameAnswer
+) -> Result<usize, Refusal>
     requires { planes ≤ 8 }
     ensures answer { result ≡ frame_answer
         (body_shape_frame body.now w h planes masking compression transparent
@@ -147,11 +138,8 @@ fn sound_shape_frame(
     let height = h as usize;
     let pixels = width * height;
     let right = both_right(frame.len(), shape.len(), pixels);
-    let number = shape_refusal(right, masking);
-    if number != 0 {
-        return FrameAnswer::Refused { number, place: 0 };
-    }
-    let scanned = scan_shaped_frame(
+    shape_refusal(right, masking)?;
+    let end = scan_shaped_frame(
         body,
         width,
         height,
@@ -161,11 +149,8 @@ fn sound_shape_frame(
         compression,
         frame,
         shape,
-    );
-    match scanned {
-        LineAnswer::Next(end) => FrameAnswer::Leftover(left_over(body.len(), end)),
-        LineAnswer::Refused { number, place } => FrameAnswer::Refused { number, place },
-    }
+    )?;
+    Ok(left_over(body.len(), end))
 }
 
 // The colour numbers of all scan lines with their shape, and how many bytes of the BODY are left; a refusal leaves both frames as
@@ -180,7 +165,7 @@ pub fn shape_frame_in_body(
     transparent: u16,
     frame: &mut [u8],
     shape: &mut [u8],
-) -> FrameAnswer
+) -> Result<usize, Refusal>
     ensures answer { result ≡ frame_answer
         (shape_frame_in_body body.now w h planes masking compression transparent
         (length frame.old) (length shape.old)) }
@@ -191,10 +176,7 @@ pub fn shape_frame_in_body(
         (shape_frame_in_body body.now w h planes masking compression transparent
         (length frame.old) (length shape.old)) shape.old }
 {
-    let number = judge_fields(w, h, planes, masking, compression);
-    if number != 0 {
-        return FrameAnswer::Refused { number, place: 0 };
-    }
+    judge_fields(w, h, planes, masking, compression)?;
     sound_shape_frame(
         body,
         w,

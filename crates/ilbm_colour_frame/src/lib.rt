@@ -8,9 +8,9 @@ ghost use Rattle.ilbm_spec.specs.Rows.{row_length, rows_in_line, IsRead, lines_w
 ghost use Rattle.ilbm_colour_words.specs.Words.{word_pixels};
 ghost use Rattle.ilbm_colour_pixels.specs.Steps.{step_by};
 
+use iff_refusal::Refusal;
 use ilbm_colour_line::write_colour_line;
 use ilbm_plane_rows::{judge_rows, row_count, row_length};
-use ilbm_spec::LineAnswer;
 use ilbm_spread::spread_table;
 
 // Writes scan lines that are known to be sound in colours, one after the other, and returns the place after them.
@@ -38,8 +38,7 @@ fn write_colour_lines(
 {
     let long = 3 * w;
     let mut q = 0;
-    let mut y = 0;
-    while y < h {
+    for y in 0..h {
         let from = y * long;
         let to = from + long;
         q = write_colour_line(
@@ -56,7 +55,6 @@ fn write_colour_lines(
             buffer,
             &mut frame[from..to],
         );
-        y = y + 1;
     }
     q
 }
@@ -130,7 +128,7 @@ pub fn scan_colour_frame(
     masking: u8,
     compression: u8,
     frame: &mut [u8],
-) -> LineAnswer
+) -> Result<usize, Refusal>
     requires w_bound { (w ≤ 65535) × (h ≤ 65535) × (planes ≤ 8) }
     requires frame_len { length frame.old ≡ 3 * w * h }
     ensures is { result ≡ line_answer (lines_with (word_pixels w planes (step_by hold keep.now set.now))
@@ -141,23 +139,18 @@ pub fn scan_colour_frame(
 {
     let n = row_length(w);
     let rows = row_count(planes, masking);
-    let judged = judge_rows(body, 0, n, h * rows, compression);
-    match judged {
-        LineAnswer::Next(end) => {
-            write_colour_frame(
-                hold,
-                keep,
-                set,
-                body,
-                w,
-                h,
-                planes,
-                rows,
-                compression,
-                frame,
-            );
-            LineAnswer::Next(end)
-        }
-        LineAnswer::Refused { number, place } => LineAnswer::Refused { number, place },
-    }
+    let end = judge_rows(body, 0, n, h * rows, compression)?;
+    write_colour_frame(
+        hold,
+        keep,
+        set,
+        body,
+        w,
+        h,
+        planes,
+        rows,
+        compression,
+        frame,
+    );
+    Ok(end)
 }

@@ -8,9 +8,9 @@ ghost use Rattle.ilbm_spec.specs.Rows.{row_length, rows_in_line, IsRead, rows_fr
 ghost use Rattle.ilbm_colour_words.specs.Words.{word_pixels};
 ghost use Rattle.ilbm_colour_pixels.specs.Steps.{step_by};
 
+use iff_refusal::Refusal;
 use ilbm_colour_pixels::put_colours;
 use ilbm_plane_rows::{judge_rows, row_count, row_length, write_line_by};
-use ilbm_spec::LineAnswer;
 use ilbm_spread::spread_table;
 
 // Writes a line that is known to be sound, and returns the place after it: its colour numbers into the last third of the row, and then
@@ -65,7 +65,7 @@ fn scan_colour_row_in(
     compression: u8,
     buffer: &mut [u8],
     row: &mut [u8],
-) -> LineAnswer
+) -> Result<usize, Refusal>
     requires w_bound { (w ≤ 65535) × (planes ≤ 8) }
     requires w_in_bounds { (rows_in_line planes masking * row_length w ≤ length buffer.old) × (length row.old ≡ 3 * w) }
     ensures is { result ≡ line_answer (line_with (word_pixels w planes (step_by hold keep.now set.now))
@@ -76,28 +76,23 @@ fn scan_colour_row_in(
 {
     let n = row_length(w);
     let rows = row_count(planes, masking);
-    let judged = judge_rows(body, at, n, rows, compression);
-    match judged {
-        LineAnswer::Next(next) => {
-            let table = spread_table();
-            write_colour_line(
-                &table,
-                hold,
-                keep,
-                set,
-                body,
-                at,
-                w,
-                planes,
-                rows,
-                compression,
-                buffer,
-                row,
-            );
-            LineAnswer::Next(next)
-        }
-        LineAnswer::Refused { number, place } => LineAnswer::Refused { number, place },
-    }
+    let next = judge_rows(body, at, n, rows, compression)?;
+    let table = spread_table();
+    write_colour_line(
+        &table,
+        hold,
+        keep,
+        set,
+        body,
+        at,
+        w,
+        planes,
+        rows,
+        compression,
+        buffer,
+        row,
+    );
+    Ok(next)
 }
 
 // A scan line in colours from a place of the BODY. Most lines have room in a small buffer, which is sooner cleared.
@@ -112,7 +107,7 @@ pub fn scan_colour_row(
     masking: u8,
     compression: u8,
     row: &mut [u8],
-) -> LineAnswer
+) -> Result<usize, Refusal>
     requires w_bound { (w ≤ 65535) × (planes ≤ 8) }
     requires row_len { length row.old ≡ 3 * w }
     ensures is { result ≡ line_answer (line_with (word_pixels w planes (step_by hold keep.now set.now))

@@ -54,17 +54,17 @@ fn colour_by_palette(words: &[u32; 256], w: usize, row: &mut [u8])
     requires { length row.old ≡ 3 * w }
     ensures { row.new ≡ carried_words (by_palette words.now) 0 (drop (2 * w) row.old) }
 {
+    if w == 0 {
+        return;
+    }
     let from = 2 * w;
-    let mut x = 0;
-    while x + 1 < w {
+    let last = w - 1;
+    for x in 0..last {
         let v = looked_up(words, row[from + x]);
         put_four(row, 3 * x, v);
-        x = x + 1;
     }
-    if x < w {
-        let v = looked_up(words, row[from + x]);
-        put_last(row, 3 * x, v);
-    }
+    let v = looked_up(words, row[from + last]);
+    put_last(row, 3 * last, v);
 }
 
 // The pixels of a line by hold-and-modify, from black on.
@@ -73,18 +73,18 @@ fn colour_by_holding(keep: &[u32; 256], set: &[u32; 256], w: usize, row: &mut [u
     ensures { row.new
         ≡ carried_words (by_holding keep.now set.now) 0 (drop (2 * w) row.old) }
 {
+    if w == 0 {
+        return;
+    }
     let from = 2 * w;
+    let last = w - 1;
     let mut held: u32 = 0;
-    let mut x = 0;
-    while x + 1 < w {
+    for x in 0..last {
         held = modified(keep, set, held, row[from + x]);
         put_four(row, 3 * x, held);
-        x = x + 1;
     }
-    if x < w {
-        held = modified(keep, set, held, row[from + x]);
-        put_last(row, 3 * x, held);
-    }
+    held = modified(keep, set, held, row[from + last]);
+    put_last(row, 3 * last, held);
 }
 
 // The pixels of a line, either way; the palette's table is the one of what is set.

@@ -8,11 +8,11 @@ use lib.Dec.{eqb}
 use lib.ListN.{get_or}
 use native.Mathlib.Omega.{arith}
 use Rattle.iff_name.specs.Name.{both, either}
-use Rattle.ilbm_spec.specs.declared.LineAnswer.{LineAnswer}
 use Rattle.ilbm_spec.specs.Rows.{Pixels, line_with, lines_with, line_answer, bytes_after}
 use Rattle.ilbm_spec.specs.Colours.{holds, is_half_bright, pixel_colour, coloured, wrong_planes}
 use Rattle.ilbm_colour_words.specs.Words.{by_palette, by_holding, word_pixels, IsPalette, SixOrEight, IsKeep, IsSet}
 use Rattle.ilbm_colour_words.proofs.Meet.{palette_pixels, holding_pixels}
+use Rattle.iff_refusal.specs.Numbers.{Answer}
 
 pub held_planes :
     (mode planes : ℕ) (hold : Bool) → hold ≡ holds mode → hold ≡ true → wrong_planes mode planes ≡ false → SixOrEight planes
@@ -39,13 +39,13 @@ module _
 
 module _ (words colours : Pixels) (same : words ≡ colours) (compression n rows : ℕ) (body : List ℕ) where
   pub same_line :
-      (at : ℕ) (r : LineAnswer) (old new : List ℕ) →
+      (at : ℕ) (r : Answer ℕ) (old new : List ℕ) →
       (r ≡ line_answer (line_with words compression n rows body at)) × (new ≡ bytes_after (line_with words compression n rows body at) old) →
       (r ≡ line_answer (line_with colours compression n rows body at)) × (new ≡ bytes_after (line_with colours compression n rows body at) old)
   same_line at r old new t = rw same at t
 
   pub same_lines :
-      (h : ℕ) (r : LineAnswer) (old new : List ℕ) →
+      (h : ℕ) (r : Answer ℕ) (old new : List ℕ) →
       (r ≡ line_answer (lines_with words compression n rows body h 0)) ×
       (new ≡ bytes_after (lines_with words compression n rows body h 0) old) →
       (r ≡ line_answer (lines_with colours compression n rows body h 0)) ×

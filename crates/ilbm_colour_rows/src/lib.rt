@@ -5,11 +5,11 @@ ghost use Rattle.std.specs.Prelude.{◌≡◌, false, ◌*◌, ◌≤◌, length
 ghost use Rattle.ilbm_spec.specs.Rows.{row_length, rows_in_line, line_with, lines_with, line_answer, bytes_after};
 ghost use Rattle.ilbm_spec.specs.Colours.{pixel_colour, coloured, wrong_planes};
 
+use iff_refusal::Refusal;
 use ilbm_colour_frame::scan_colour_frame;
 use ilbm_colour_line::scan_colour_row;
 use ilbm_colour_words::{keep_words, palette_words, set_words};
 use ilbm_palette_colours::{holds, is_half_bright};
-use ilbm_spec::LineAnswer;
 
 // A scan line by the tables of its mode.
 pub fn coloured_row(
@@ -22,7 +22,7 @@ pub fn coloured_row(
     mode: u32,
     palette: &[u8],
     row: &mut [u8],
-) -> LineAnswer
+) -> Result<usize, Refusal>
     requires w_bound { (w ≤ 65535) × (planes ≤ 8) × (wrong_planes mode planes ≡ false) }
     requires row_len { length row.old ≡ 3 * w }
     ensures is { result ≡ line_answer (line_with (coloured w planes (pixel_colour mode planes palette.now))
@@ -75,7 +75,7 @@ pub fn coloured_frame(
     mode: u32,
     palette: &[u8],
     frame: &mut [u8],
-) -> LineAnswer
+) -> Result<usize, Refusal>
     requires w_bound { (w ≤ 65535) × (h ≤ 65535) × (planes ≤ 8) × (wrong_planes mode planes ≡ false) }
     requires frame_len { length frame.old ≡ 3 * w * h }
     ensures is { result ≡ line_answer (lines_with (coloured w planes (pixel_colour mode planes palette.now))

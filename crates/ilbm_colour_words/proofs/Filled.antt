@@ -5,9 +5,7 @@ use mathlib.Core.Path.{◌≡◌, refl, sym, ap, ◌∙◌}
 use mathlib.Core.Bool.{Bool, true, false}
 use mathlib.Core.List.{List}
 use lib.Dec.{ltb}
-use lib.ListN.{length, get_or, set, replicate, get_or-replicate}
-use lib.Seq.{get_or-set_same, get_or-set_other}
-use borrow.Author.Count.{below_more}
+use lib.ListN.{length, get_or, replicate, get_or-replicate}
 use borrow.Author.Tests.{le-ltb, ltb-true, ltb-false}
 use native.Mathlib.Omega.{arith}
 use Rattle.ilbm_spec.specs.Colours.{black, entry_at, number_colour}
@@ -21,16 +19,6 @@ pub record Filled (f : ℕ → ℕ) (i : ℕ) (words : List ℕ) : Type 0 where
 module _ (f : ℕ → ℕ) where
   pub filled_none : Filled f 0 (replicate 256 0)
   filled_none = record { done = λ code l. absurd (omega arith); rest = λ code l m. get_or-replicate 256 code 0 0 m }
-
-  module _ (i : ℕ) (words : List ℕ) (g : Filled f i words) where
-    pub filled_more : (v : ℕ) → i < length words → v ≡ f i → Filled f (i + 1) (set words i v)
-    filled_more v l e =
-        record {
-          done = below_more (λ (code : ℕ). get_or (set words i v) code 0 ≡ f code) i
-              (λ code m. get_or-set_other words i code v 0 (λ x. omega arith) ∙ g.done code m)
-              (get_or-set_same words i v 0 l ∙ e);
-          rest = λ code m o. get_or-set_other words i code v 0 (λ x. omega arith) ∙ g.rest code (omega arith) o;
-        }
 
 -- ---- the numbers that a palette gives a colour
 

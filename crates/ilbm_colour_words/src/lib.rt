@@ -37,10 +37,8 @@ pub fn palette_words(half: bool, palette: &[u8]) -> [u32; 256]
 {
     let mut words = [0; 256];
     let count = number_count(half, palette);
-    let mut i = 0;
-    while i < count {
+    for i in 0..count {
         words[i] = word(number_colour(half, palette, i as u8));
-        i += 1;
     }
     words
 }
@@ -126,10 +124,8 @@ pub fn keep_words(planes: u8) -> [u32; 256]
 {
     let mut keep = [0; 256];
     let count = code_count(planes);
-    let mut i = 0;
-    while i < count {
+    for i in 0..count {
         keep[i] = keep_word(planes, i as u8);
-        i += 1;
     }
     keep
 }
@@ -141,10 +137,8 @@ pub fn set_words(planes: u8, palette: &[u8]) -> [u32; 256]
 {
     let mut set = [0; 256];
     let count = code_count(planes);
-    let mut i = 0;
-    while i < count {
+    for i in 0..count {
         set[i] = set_word(planes, palette, i as u8);
-        i += 1;
     }
     set
 }

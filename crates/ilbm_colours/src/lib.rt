@@ -7,12 +7,13 @@ ghost use Rattle.ilbm_spec.specs.Colours.{colour_line_of, colour_frame_of};
 ghost use Rattle.ilbm_find.specs.Seen.{Judged};
 ghost use Rattle.ilbm_colours.specs.Colours.{LineDone, FrameDone};
 
+use iff_refusal::{Reason, Refusal};
 use ilbm_body_colours::{colour_frame_in_body, colour_line_in_body};
 use ilbm_cmap::part_or_default;
-use ilbm_content::{Contents, Part};
-use ilbm_find::{View, view_picture};
+use ilbm_content::Contents;
+use ilbm_find::view_picture;
 use ilbm_properties::view_mode;
-use ilbm_spec::{BitmapHeader, FrameAnswer, LineAnswer};
+use ilbm_spec::BitmapHeader;
 
 // A scan line of a picture that is not refused.
 fn picture_colour_line<'a>(
@@ -22,7 +23,7 @@ fn picture_colour_line<'a>(
     default: &'a [u8],
     start: usize,
     row: &mut [u8],
-) -> LineAnswer
+) -> Result<usize, Refusal>
     requires { Judged s.now c header }
     ensures { LineDone s.now c header default.now start row.old result row.new }
 {
@@ -33,11 +34,8 @@ fn picture_colour_line<'a>(
     let palette = part_or_default(s, part, default);
     let body = c.body;
     match body {
-        Part::Nothing => LineAnswer::Refused {
-            number: 25,
-            place: 0,
-        },
-        Part::Between(from, to) => colour_line_in_body(
+        None => Err(Reason::NoBody.at(0)),
+        Some((from, to)) => colour_line_in_body(
             &s[from..to],
             header.w,
             header.planes,
@@ -59,17 +57,14 @@ pub fn colour_line<'a>(
     default: &'a [u8],
     start: usize,
     row: &mut [u8],
-) -> LineAnswer
+) -> Result<usize, Refusal>
     ensures answer { result
         ≡ line_answer (colour_line_of s.now i default.now start (length row.old)) }
     ensures bytes { row.new ≡ bytes_after
         (colour_line_of s.now i default.now start (length row.old)) row.old }
 {
-    let v = view_picture(s, i);
-    match v {
-        View::Seen(c, header) => picture_colour_line(s, c, header, default, start, row),
-        View::Refused(number, place) => LineAnswer::Refused { number, place },
-    }
+    let (c, header) = view_picture(s, i)?;
+    picture_colour_line(s, c, header, default, start, row)
 }
 
 // The frame of a picture that is not refused.
@@ -79,7 +74,7 @@ fn picture_colour_frame<'a>(
     header: BitmapHeader,
     default: &'a [u8],
     frame: &mut [u8],
-) -> FrameAnswer
+) -> Result<usize, Refusal>
     requires { Judged s.now c header }
     ensures { FrameDone s.now c header default.now frame.old result frame.new }
 {
@@ -90,11 +85,8 @@ fn picture_colour_frame<'a>(
     let palette = part_or_default(s, part, default);
     let body = c.body;
     match body {
-        Part::Nothing => FrameAnswer::Refused {
-            number: 25,
-            place: 0,
-        },
-        Part::Between(from, to) => colour_frame_in_body(
+        None => Err(Reason::NoBody.at(0)),
+        Some((from, to)) => colour_frame_in_body(
             &s[from..to],
             header.w,
             header.h,
@@ -109,14 +101,16 @@ fn picture_colour_frame<'a>(
 }
 
 // Red, green and blue of all pixels of picture i, and how many bytes of the BODY are left; a refusal leaves the frame as it was.
-pub fn colour_frame<'a>(s: &'a [u8], i: usize, default: &'a [u8], frame: &mut [u8]) -> FrameAnswer
+pub fn colour_frame<'a>(
+    s: &'a [u8],
+    i: usize,
+    default: &'a [u8],
+    frame: &mut [u8],
+) -> Result<usize, Refusal>
     ensures answer { result ≡ frame_answer (colour_frame_of s.now i default.now (length frame.old)) }
     ensures bytes { frame.new ≡ bytes_after
         (colour_frame_of s.now i default.now (length frame.old)) frame.old }
 {
-    let v = view_picture(s, i);
-    match v {
-        View::Seen(c, header) => picture_colour_frame(s, c, header, default, frame),
-        View::Refused(number, place) => FrameAnswer::Refused { number, place },
-    }
+    let (c, header) = view_picture(s, i)?;
+    picture_colour_frame(s, c, header, default, frame)
 }

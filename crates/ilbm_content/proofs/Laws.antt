@@ -1,105 +1,115 @@
 -- Which property counts: the last one before the first BODY, or else the shared one. A chunk's data begins 8 behind its place and has the
 -- size that stands before it.
 use Prim.Native.Nat.{ℕ, ◌+◌, ◌≤◌, ◌<◌}
-use mathlib.Core.Path.{◌≡◌, refl, sym, ap, ◌∙◌}
+use mathlib.Core.Path.{◌≡◌, refl, ap, ◌∙◌}
 use mathlib.Core.Bool.{false}
 use mathlib.Core.List.{List}
-use mathlib.Core.Option.{Option, some, none as nothing}
+use mathlib.Core.Option.{Option as Maybe, some, none as nothing}
 use lib.ListN.{length}
 use native.Mathlib.Omega.{arith}
-use Rattle.iff_chunk.specs.Chunks.{Chunks, word}
+use Rattle.iff_chunk.specs.Chunks.{word}
 use Rattle.ilbm_spec.specs.declared.Origin.TheVariants.{Own, Shared as Shared-by, Absent}
 use Rattle.ilbm_spec.specs.Names.{BMHD, CMAP, GRAB, DEST, SPRT, CAMG}
-use Rattle.ilbm_spec.specs.Contents.{Located, last_named, at_body, Property, own, shared, absent, Scope as Shares, own_or, property_of}
-use Rattle.ilbm_spec.specs.Contents.{bodies_from, content_of}
+use Rattle.ilbm_spec.specs.Contents.{Located, last_named, at_body, Property, own, shared, absent, own_or, property_of}
+use Rattle.ilbm_spec.specs.Contents.{bodies_from}
 use Rattle.ilbm_spec.specs.Pictures.{origin_of}
 use Rattle.ilbm_members.specs.declared.Gathered.{Gathered}
-use Rattle.ilbm_members.specs.Members.{Holds, Row, Marks}
+use Rattle.ilbm_members.specs.Members.{Row, Marks}
+use Rattle.ilbm_members.proofs.Laws.{none_some, some_same}
 use Rattle.ilbm_members.specs.Gathers.{LastIs, first_of, Gathers}
 use Rattle.ilbm_locate.specs.declared.Shared.{Shared}
 use Rattle.ilbm_locate.specs.declared.Scope.{Scope}
-use Rattle.ilbm_locate.specs.Scopes.{SharedIs, ScopeIs, Scoped}
-use Rattle.ilbm_content.specs.declared.Part.{Part}
-use Rattle.ilbm_content.specs.declared.Part.TheVariants.{Nothing, Between}
+use Rattle.ilbm_locate.specs.Scopes.{SharedIs}
 use Rattle.ilbm_content.specs.declared.Held.{Held}
 use Rattle.ilbm_content.specs.declared.Contents.{Contents}
 use Rattle.ilbm_content.specs.Held.{Shows, HeldIs, Marked, Known, PartIs, OwnOrShared, ContentIs}
+use Rattle.std.specs.Prelude.{Option, Some, None}
 
 -- a chunk at a place
-module _ (s : List ℕ) (k : ℕ) where
-  pub part_none : k ≡ 0 → PartIs s k Nothing
+module _ (s : List ℕ) (k : Option ℕ) where
+  pub part_none : k ≡ None → PartIs s k None
   part_none z = record { at = go }
     where
-      go : (o : Option Located) → Marks s k o → Shows s Nothing o
+      go : (o : Maybe Located) → Marks s k o → Shows s None o
       go nothing m = tt
-      go (some x) m = absurd (omega (arith, m.1))
+      go (some x) m = absurd (none_some k x.place z m.0)
 
-  module _ (z : (k ≡ 0 → ⊥)) where
-    pub part_room : Marked s k → k + 4 + 4 ≤ length s
-    part_room (nothing, m) = absurd (z m)
-    part_room (some x, m) = omega (arith, m.0, m.2.inside)
+  module _ (p : ℕ) (z : k ≡ Some p) where
+    pub part_room : Marked s k → p + 4 + 4 ≤ length s
+    part_room (nothing, m) = absurd (none_some k p m z)
+    part_room (some x, m) = omega (arith, some_same k p x.place z m.0, m.1.inside)
 
-    pub part_some : (n : ℕ) → n ≡ word s (k + 4) → PartIs s k (Between (k + 8) (k + 8 + n))
+    pub part_some : (n : ℕ) → n ≡ word s (p + 4) → PartIs s k (Some (p + 8, p + 8 + n))
     part_some n i = record { at = go }
       where
-        go : (o : Option Located) → Marks s k o → Shows s (Between (k + 8) (k + 8 + n)) o
-        go nothing m = absurd (z m)
+        go : (o : Maybe Located) → Marks s k o → Shows s (Some (p + 8, p + 8 + n)) o
+        go nothing m = absurd (none_some k p m z)
         go (some x) m =
-            let j : n ≡ length x.content = i ∙ (rw m.0 m.2.size) in
-            let y = m.2.inside in
-            let a = m.0 in
-            (rw (j, a) m.2.part, omega arith, omega arith, omega arith)
+            let a = some_same k p x.place z m.0 in
+            let j : n ≡ length x.content = i ∙ (rw a m.1.size) in
+            let y = m.1.inside in
+            (rw (j, a) m.1.part, omega arith, omega arith, omega arith)
 
-    pub part_fits : (n : ℕ) → n ≡ word s (k + 4) → Marked s k → k + 8 + n < 16777217
-    part_fits n i (nothing, m) = absurd (z m)
+    pub part_fits : (n : ℕ) → n ≡ word s (p + 4) → Marked s k → p + 8 + n < 16777217
+    part_fits n i (nothing, m) = absurd (none_some k p m z)
     part_fits n i (some x, m) =
-        let j : n ≡ length x.content = i ∙ (rw m.0 m.2.size) in
-        omega (arith, m.0, m.2.inside, m.2.short)
+        let a = some_same k p x.place z m.0 in
+        let j : n ≡ length x.content = i ∙ (rw a m.1.size) in
+        omega (arith, m.1.inside, m.1.short)
 
-    pub place_fits : Marked s k → k + 8 < 16777217
-    place_fits (nothing, m) = absurd (z m)
-    place_fits (some x, m) = omega (arith, m.0, m.2.inside, m.2.short)
+    pub place_fits : Marked s k → p + 8 < 16777217
+    place_fits (nothing, m) = absurd (none_some k p m z)
+    place_fits (some x, m) = omega (arith, some_same k p x.place z m.0, m.1.inside, m.1.short)
+
+-- the shared property that stands at its places
+shared_stands :
+    (s : List ℕ) (h : Option Shared) (a : Shared) (p : ℕ) (x : Located) → h ≡ Some a → SharedIs s h (shared p x) →
+    (a.prop ≡ p) × Marks s (Some a.place) (some x)
+shared_stands s h a p x i (j, w) = let y : a ≡ record { prop = p; place = x.place } = cc in rw y (refl, (refl, w))
+
+no_shared : (h : Option Shared) (a : Shared) → h ≡ None → h ≡ Some a → ⊥
+no_shared h a i j = let z : ◌≡◌ {A = ℕ} 0 1 = cc in omega arith
 
 -- the property that counts
-module _ (s : List ℕ) (k : ℕ) (h : Shared) where
-  pub own_counts : (r : Part) → (k ≡ 0 → ⊥) → PartIs s k r → OwnOrShared s k h (record { part = r; origin = Own })
+module _ (s : List ℕ) (k : Option ℕ) (h : Option Shared) where
+  pub own_counts : (r : Option (ℕ × ℕ)) → (k ≡ None → ⊥) → PartIs s k r → OwnOrShared s k h (record { part = r; origin = Own })
   own_counts r z w = record { at = go }
     where
-      go : (o : Option Located) (q : Property) → Marks s k o → SharedIs s h q → HeldIs s (record { part = r; origin = Own }) (own_or o q)
+      go : (o : Maybe Located) (q : Property) → Marks s k o → SharedIs s h q → HeldIs s (record { part = r; origin = Own }) (own_or o q)
       go nothing q m y = absurd (z m)
       go (some x) q m y = (refl, w.at (some x) m)
 
-  module _ (z : k ≡ 0) where
+  module _ (z : k ≡ None) where
     none-own : {A : Type 0} (x : Located) → Marks s k (some x) → A
-    none-own x m = absurd (omega (arith, m.1))
+    none-own x m = absurd (none_some k x.place z m.0)
 
-    pub shared_counts : (r : Part) → (h.place ≡ 0 → ⊥) → PartIs s h.place r →
-        OwnOrShared s k h (record { part = r; origin = Shared-by h.prop })
-    shared_counts r y w = record { at = go }
+    pub shared_counts : (r : Option (ℕ × ℕ)) (a : Shared) → h ≡ Some a → PartIs s (Some a.place) r →
+        OwnOrShared s k h (record { part = r; origin = Shared-by a.prop })
+    shared_counts r a y w = record { at = go }
       where
-        go : (o : Option Located) (q : Property) → Marks s k o → SharedIs s h q →
-            HeldIs s (record { part = r; origin = Shared-by h.prop }) (own_or o q)
+        go : (o : Maybe Located) (q : Property) → Marks s k o → SharedIs s h q →
+            HeldIs s (record { part = r; origin = Shared-by a.prop }) (own_or o q)
         go (some x) q m v = none-own x m
         go nothing (own x) m v = absurd v
-        go nothing (shared p x) m v = (ap Shared-by v.0, w.at (some x) v.1)
-        go nothing absent m v = absurd (y v)
+        go nothing (shared p x) m v = let u = shared_stands s h a p x y v in (ap Shared-by u.0, w.at (some x) u.1)
+        go nothing absent m v = absurd (no_shared h a v y)
 
-    pub nothing_counts : h.place ≡ 0 → OwnOrShared s k h (record { part = Nothing; origin = Absent })
+    pub nothing_counts : h ≡ None → OwnOrShared s k h (record { part = None; origin = Absent })
     nothing_counts y = record { at = go }
       where
-        go : (o : Option Located) (q : Property) → Marks s k o → SharedIs s h q →
-            HeldIs s (record { part = Nothing; origin = Absent }) (own_or o q)
+        go : (o : Maybe Located) (q : Property) → Marks s k o → SharedIs s h q →
+            HeldIs s (record { part = None; origin = Absent }) (own_or o q)
         go (some x) q m v = none-own x m
         go nothing (own x) m v = absurd v
-        go nothing (shared p x) m v = absurd (omega (arith, v.1.1))
+        go nothing (shared p x) m v = absurd (no_shared h _ y v.0)
         go nothing absent m v = (refl, refl)
 
-pub shared_marked : (s : List ℕ) (h : Shared) → (h.place ≡ 0 → ⊥) → Known s h → Marked s h.place
-shared_marked s h z (own x, v) = absurd v
-shared_marked s h z (shared p x, v) = (some x, v.1)
-shared_marked s h z (absent, v) = absurd (z v)
+pub shared_marked : (s : List ℕ) (h : Option Shared) (a : Shared) → h ≡ Some a → Known s h → Marked s (Some a.place)
+shared_marked s h a z (own x, v) = absurd v
+shared_marked s h a z (shared p x, v) = (some x, (shared_stands s h a p x z v).1)
+shared_marked s h a z (absent, v) = absurd (no_shared h a v z)
 
-pub last_marked : (s : List ℕ) (p e name x : ℕ) → Row s p e → LastIs s p e false name x → Marked s x
+pub last_marked : (s : List ℕ) (p e name : ℕ) (x : Option ℕ) → Row s p e → LastIs s p e false name x → Marked s x
 last_marked s p e name x (F, R, h) w = (last_named at_body name p nothing F, w.at F R h)
 
 -- all of it

@@ -11,17 +11,10 @@ use ilbm_locate::{Scope, Shared};
 use ilbm_members::gather;
 use ilbm_spec::Origin;
 
-// A part of the file, from a place up to another, or nothing.
-#[derive(Clone, Copy)]
-pub enum Part {
-    Nothing,
-    Between(usize, usize),
-}
-
 // A property's data, and where it comes from.
 #[derive(Clone, Copy)]
 pub struct Held {
-    pub part: Part,
+    pub part: Option<(usize, usize)>,
     pub origin: Origin,
 }
 
@@ -35,41 +28,39 @@ pub struct Contents {
     pub sprt: Held,
     pub camg: Held,
     pub bodies: usize,
-    pub body: Part,
+    pub body: Option<(usize, usize)>,
 }
 
-// The data of the chunk at a place, 0 for none.
-fn part_at(s: &[u8], place: usize) -> Part
+// The data of the chunk at a place, if there is one.
+fn part_at(s: &[u8], place: Option<usize>) -> Option<(usize, usize)>
     requires { Marked s.now place }
     ensures { PartIs s.now place result }
 {
-    if place == 0 {
-        return Part::Nothing;
-    }
+    let place = place?;
     let size = size_at(s, place + 4);
-    Part::Between(place + 8, place + 8 + size)
+    Some((place + 8, place + 8 + size))
 }
 
-// The property that a FORM has at a place, 0 for none, or else the shared one.
-fn property(s: &[u8], own: usize, other: Shared) -> Held
+// The property that a FORM has at a place, or else the shared one, if there is one.
+fn property(s: &[u8], own: Option<usize>, other: Option<Shared>) -> Held
     requires { (Marked s.now own) × (Known s.now other) }
     ensures { OwnOrShared s.now own other result }
 {
-    if own != 0 {
+    if own.is_some() {
         return Held {
             part: part_at(s, own),
             origin: Origin::Own,
         };
     }
-    if other.place != 0 {
-        return Held {
-            part: part_at(s, other.place),
-            origin: Origin::Shared(other.prop),
-        };
-    }
-    Held {
-        part: Part::Nothing,
-        origin: Origin::Absent,
+    match other {
+        Some(shared) => Held {
+            part: part_at(s, Some(shared.place)),
+            origin: Origin::Shared(shared.prop),
+        },
+        None => Held {
+            part: None,
+            origin: Origin::Absent,
+        },
     }
 }
 
@@ -79,19 +70,13 @@ pub fn content_at(s: &[u8], form: usize, e: usize, scope: Scope) -> Contents
     ensures { ContentIs s.now form e scope result }
 {
     let g = gather(s, form + 12, e, false);
-    let bmhd = scope.bmhd;
-    let cmap = scope.cmap;
-    let grab = scope.grab;
-    let dest = scope.dest;
-    let sprt = scope.sprt;
-    let camg = scope.camg;
     Contents {
-        bmhd: property(s, g.bmhd, bmhd),
-        cmap: property(s, g.cmap, cmap),
-        grab: property(s, g.grab, grab),
-        dest: property(s, g.dest, dest),
-        sprt: property(s, g.sprt, sprt),
-        camg: property(s, g.camg, camg),
+        bmhd: property(s, g.bmhd, scope.bmhd),
+        cmap: property(s, g.cmap, scope.cmap),
+        grab: property(s, g.grab, scope.grab),
+        dest: property(s, g.dest, scope.dest),
+        sprt: property(s, g.sprt, scope.sprt),
+        camg: property(s, g.camg, scope.camg),
         bodies: g.bodies,
         body: part_at(s, g.body),
     }

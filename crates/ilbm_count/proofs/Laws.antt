@@ -1,9 +1,8 @@
 -- The pictures among the chunks still to come: each chunk takes itself off, and brings in nothing.
-use Prim.Native.Nat.{ℕ, ◌+◌, ◌-◌, ◌*◌, ◌/◌, ◌≤◌, ◌<◌}
+use Prim.Native.Nat.{ℕ, ◌+◌, ◌-◌, ◌≤◌, ◌<◌}
 use mathlib.Core.Path.{◌≡◌, refl, sym, ap, ◌∙◌}
 use mathlib.Core.Bool.{Bool, true, false}
 use mathlib.Core.List.{List, [], ◌∷◌, ◌++◌}
-use lib.Dec.{eqb}
 use lib.ListN.{length, length-append}
 use mir.Syntax.{w64}
 use mir.Val.{Fits}
@@ -11,19 +10,16 @@ use borrow.Author.Tests.{ne_eqb}
 use native.Mathlib.Omega.{arith}
 use Rattle.iff_name.specs.Name.{pick, kind_of}
 use Rattle.iff_name.specs.declared.Kind.{Kind}
-use Rattle.iff_chunk.specs.Chunks.{bytes, Chunks, none, leaf, group, Chunk, before, word}
+use Rattle.iff_chunk.specs.Chunks.{bytes, Chunks, none, leaf, group, before, word}
 use Rattle.iff_rules.specs.Rules.{is_group}
-use Rattle.iff_tree.specs.Judge.{Found, found, refused, read_file, verdict_of, check_of}
-use Rattle.iff_tree.specs.declared.Verdict.{Verdict}
-use Rattle.iff_tree.specs.declared.Verdict.TheVariants.{Refused as Verdict-refused}
 use Rattle.iff_walk.specs.Order.{join, later, following}
 use Rattle.iff_walk.specs.Coming.{Coming, Sound}
 use Rattle.iff_walk.specs.laws.Coming.{coming_none, coming_room, coming_later, coming_further, leaf_here, group_here}
 use Rattle.iff_name.specs.Codes.{FORM}
 use Rattle.ilbm_spec.specs.Names.{is_picture}
 use Rattle.ilbm_spec.specs.Contents.{scope_inside, Scope, no_scope, contents_from, contents_of}
-use Rattle.ilbm_count.specs.declared.Counted.TheVariants.{Pictures, Refused}
-use Rattle.ilbm_count.specs.Count.{count_in, count_of, form_at, Standing}
+use Rattle.ilbm_count.specs.Count.{count_of, form_at, Standing}
+use Rattle.std.specs.Prelude.{Ok}
 
 -- the pictures in a row of chunks, at any depth
 unfoldable pub forms : Chunks → ℕ
@@ -40,7 +36,8 @@ unfolding contents_from forms
 contents_forms p scope none = refl
 contents_forms p scope (leaf n d pd F) = contents_forms (p + (8 + length d + length pd)) scope F
 contents_forms p scope (group n t G F) =
-    one_or_none (is_picture n t) _ _ ∙ rw (length-append, contents_forms (p + 12) (scope_inside n p G scope) G, contents_forms (p + (12 + length (bytes G))) scope F)
+    one_or_none (is_picture n t) _ _
+    ∙ rw (length-append, contents_forms (p + 12) (scope_inside n p G scope) G, contents_forms (p + (12 + length (bytes G))) scope F)
 
 join_forms : (F K : Chunks) → forms (join F K) ≡ forms F + forms K
 unfolding forms join
@@ -57,7 +54,7 @@ no_form : (s : List ℕ) (p : ℕ) → is_group (kind_of (word s p)) ≡ false �
 no_form s p g = rw (ne_eqb (word s p) FORM (λ e. never (sym (rw e at g) ∙ form_group)))
   where
     never : false ≡ true → ⊥
-    never e = let z : ◌≡◌ {A = ℕ} 0 1 = cc in omega arith
+    never e = absurd cc
 
 later_forms : (s : List ℕ) (p e : ℕ) (P : Chunks) → Coming s p e P → p < e → forms P ≡ form_at s p + forms (later P)
 unfolding forms later
@@ -106,12 +103,12 @@ counting_start s e f =
     record { coming = before f.chunk none; stand = f.start; sum = omega (arith, contents_forms 0 no_scope (before f.chunk none)) }
 
 pub counting_end : (s : List ℕ) (e p n : ℕ) (f : Sound s e) → e ≤ p → Counting s e p n (length (contents_of f.chunk)) →
-    Pictures n ≡ count_of s
+    Ok n ≡ count_of s
 unfolding forms
 counting_end s e p n f l w =
     let z : n + forms none ≡ length (contents_of f.chunk) = rw (coming_none s p e w.coming w.stand l) at w.sum in
     let i : n ≡ length (contents_of f.chunk) = omega arith in
-    rw f.read (ap Pictures i)
+    rw f.read (ap Ok i)
 
 -- what is read at p lies inside the file
 module _ (s : List ℕ) (p e : ℕ) (t : Standing s p e) (l : p < e) where
@@ -129,30 +126,9 @@ module _ (s : List ℕ) (p e : ℕ) (t : Standing s p e) (l : p < e) where
   pub type_room : (n : ℕ) (k : Kind) (b : Bool) → n ≡ word s p → k ≡ kind_of n → b ≡ is_group k → b ≡ true → p + 8 + 4 ≤ length s
   type_room n k b i j y g = omega (arith, group_inside (rw (← i, ← j, ← y) g))
 
-  pub following_group : (n : ℕ) (k : Kind) (b : Bool) → n ≡ word s p → k ≡ kind_of n → b ≡ is_group k → b ≡ true → p + 12 ≡ following s p
-  following_group n k b i j y g = rw (← i, ← j, ← y, g)
-
-  pub following_leaf :
-      (n z : ℕ) (k : Kind) (b : Bool) → n ≡ word s p → k ≡ kind_of n → b ≡ is_group k → b ≡ false → z ≡ word s (p + 4) →
-      p + 8 + (z + 1) / 2 * 2 ≡ following s p
-  following_leaf n z k b i j y g x = rw (← i, ← j, ← y, g, ← x) (omega arith)
-
 module _ (s : List ℕ) (p n : ℕ) (i : n ≡ word s p) where
-  pub form_hit : (t : ℕ) (b : Bool) → t ≡ word s (p + 8) → b ≡ is_picture n t → b ≡ true → 1 ≡ form_at s p
-  form_hit t b x y g = rw (← i, ← x, ← y, g)
-
-  pub form_other : (t : ℕ) (b : Bool) → t ≡ word s (p + 8) → b ≡ is_picture n t → b ≡ false → 0 ≡ form_at s p
-  form_other t b x y g = rw (← i, ← x, ← y, g)
-
   pub form_none : (k : Kind) (b : Bool) → k ≡ kind_of n → b ≡ is_group k → b ≡ false → 0 ≡ form_at s p
   form_none k b j y g = sym (no_form s p (rw (← i, ← j, ← y) g))
-
-refused_count : (s : List ℕ) (f : Found Chunk) (k p : ℕ) → Verdict-refused k p ≡ verdict_of s f → Refused k p ≡ count_in f
-refused_count s (found c) k p e = absurd (let z : ◌≡◌ {A = ℕ} 0 1 = cc in omega arith)
-refused_count s (refused a b) k p e = cc
-
-pub count_refused : (s : List ℕ) (v : Verdict) (k p : ℕ) → v ≡ check_of s → v ≡ Verdict-refused k p → Refused k p ≡ count_of s
-count_refused s v k p a b = refused_count s (read_file s) k p (sym b ∙ a)
 
 -- the same, with the file that is counted
 pub record Tally (s : List ℕ) (e p n : ℕ) : Type 0 where
@@ -167,7 +143,7 @@ module _ (s : List ℕ) (e : ℕ) where
     pub tally_standing : Standing s p e
     tally_standing = (w.counting.coming, w.counting.stand)
 
-    pub tally_end : e ≤ p → Pictures n ≡ count_of s
+    pub tally_end : e ≤ p → Ok n ≡ count_of s
     tally_end l = counting_end s e p n w.file l w.counting
 
     module _ (k : ℕ) (l : p < e) (a : k ≡ form_at s p) where

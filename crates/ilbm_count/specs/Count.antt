@@ -6,15 +6,15 @@ use Rattle.iff_walk.specs.Coming.{Coming}
 use Rattle.iff_tree.specs.Judge.{Found, found, refused, read_file}
 use Rattle.ilbm_spec.specs.Names.{is_picture}
 use Rattle.ilbm_spec.specs.Contents.{contents_of}
-use Rattle.ilbm_count.specs.declared.Counted.{Counted}
-use Rattle.ilbm_count.specs.declared.Counted.TheVariants.{Pictures, Refused}
+use Rattle.iff_refusal.specs.Numbers.{Answer, refusing}
+use Rattle.std.specs.Prelude.{Ok}
 
 -- "Each FORM ILBM at any depth is a picture": as many as there are contents
-abbrev pub count_in : Found Chunk → Counted
-count_in (found c) = Pictures (length (contents_of c))
-count_in (refused k p) = Refused k p
+abbrev pub count_in : Found Chunk → Answer ℕ
+count_in (found c) = Ok (length (contents_of c))
+count_in (refused k p) = refusing k p
 
-abbrev pub count_of : List ℕ → Counted
+abbrev pub count_of : List ℕ → Answer ℕ
 count_of s = count_in (read_file s)
 
 -- 1 if a picture stands at p, else 0

@@ -1,23 +1,16 @@
 // Counts the pictures of a file, by one pass over its chunks in file order.
 #![tactic(auto)]
 
-ghost use Rattle.std.specs.Prelude.{◌≡◌, ◌+◌, ◌<◌};
+ghost use Rattle.std.specs.Prelude.{◌≡◌, ◌+◌, ◌<◌, Ok};
 ghost use Rattle.iff_walk.specs.Order.{following};
 ghost use Rattle.iff_walk.specs.Coming.{Sound};
 ghost use Rattle.ilbm_count.specs.Count.{count_of, form_at, Standing};
-ghost use Rattle.ilbm_count.specs.declared.Counted.TheVariants.{Pictures};
 
 use iff_chunk::{name_at, size_at};
+use iff_refusal::Refusal;
 use iff_rules::is_group;
-use iff_tree::{Verdict, check};
+use iff_tree::check;
 use ilbm_names::is_picture;
-
-// How many pictures there are, or the number and place of a refusal.
-#[derive(Clone, Copy)]
-pub enum Counted {
-    Pictures(usize),
-    Refused { number: usize, place: usize },
-}
 
 // 1 if the chunk at p is a picture, else 0.
 fn form_at(s: &[u8], p: usize, end: usize) -> usize
@@ -47,7 +40,7 @@ fn next_chunk(s: &[u8], p: usize, end: usize) -> usize
 
 pub fn count_sound(s: &[u8], end: usize) -> usize
     requires { Sound s.now end }
-    ensures { Pictures result ≡ count_of s.now }
+    ensures { Ok result ≡ count_of s.now }
 {
     let mut p = 0;
     let mut n = 0;
@@ -59,16 +52,9 @@ pub fn count_sound(s: &[u8], end: usize) -> usize
 }
 
 // The number of pictures in any bytes.
-pub fn count_pictures(s: &[u8]) -> Counted
+pub fn count_pictures(s: &[u8]) -> Result<usize, Refusal>
     ensures { result ≡ count_of s.now }
 {
-    let v = check(s);
-    match v {
-        Verdict::Accepted {
-            chunks: _,
-            end,
-            trailing: _,
-        } => Counted::Pictures(count_sound(s, end)),
-        Verdict::Refused { number, place } => Counted::Refused { number, place },
-    }
+    let accepted = check(s)?;
+    Ok(count_sound(s, accepted.end))
 }

@@ -1,35 +1,16 @@
--- Signed numbers of 16 bits: below 32768 the number itself, from there on it less 65536.
-use Prim.Native.Nat.{ℕ, zero, suc, ◌-◌, ◌≤◌, ◌<◌}
-use mathlib.Core.Path.{◌≡◌, refl, ap, ◌∙◌}
+-- The fields of a record from what the code reads of each.
+use Prim.Native.Nat.{ℕ}
+use mathlib.Core.Path.{◌≡◌, ◌∙◌}
 use mathlib.Core.List.{List}
-use lib.IntN.{ℤ, pos, negsuc, ◌-ℤ◌}
+use lib.IntN.{ℤ}
 use lib.ListN.{get_or}
-use borrow.Author.Tests.{lt-ltb, le-ltb}
-use native.Mathlib.Omega.{arith}
 use mir.Syntax.{w16}
 use mir.Val.{SFits, to_z, of_z}
-use mir.ValLaws.{to_z_pos, to_z-of_z}
+use mir.ValLaws.{to_z-of_z}
 use Rattle.ilbm_spec.specs.Pictures.{u16, signed, header_in, hot_spot_in, destination_in}
 use Rattle.ilbm_spec.specs.declared.BitmapHeader.{BitmapHeader}
 use Rattle.ilbm_spec.specs.declared.HotSpot.{HotSpot}
 use Rattle.ilbm_spec.specs.declared.Destination.{Destination}
-
-below : (n : ℕ) → negsuc 0 -ℤ pos n ≡ negsuc n
-below zero = refl
-below (suc n) = ap negsuc (omega arith)
-
-pub signed_low : (v : ℕ) → v < 32768 → to_z w16 v ≡ signed v
-signed_low v h = to_z_pos w16 v h ∙ rw (lt-ltb _ _ h)
-
-module _ (v : ℕ) (h : 32768 ≤ v) (l : v < 65536) where
-  high_is : negsuc 0 -ℤ to_z w16 (65535 - v) ≡ negsuc (65535 - v)
-  high_is = rw (to_z_pos w16 (65535 - v) (omega arith)) (below (65535 - v))
-
-  pub high_fits : SFits w16 (negsuc 0 -ℤ to_z w16 (65535 - v))
-  high_fits = rw high_is (record { sfits = omega arith })
-
-  pub signed_high : to_z w16 (of_z w16 (negsuc 0 -ℤ to_z w16 (65535 - v))) ≡ signed v
-  signed_high = to_z-of_z w16 (negsuc 0 -ℤ to_z w16 (65535 - v)) high_fits ∙ (high_is ∙ rw (le-ltb _ _ h))
 
 -- a signed number goes through its bits unchanged
 pub same_bits : (r z : ℤ) → SFits w16 r → r ≡ z → to_z w16 (of_z w16 r) ≡ z

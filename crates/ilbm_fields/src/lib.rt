@@ -1,35 +1,20 @@
 // The fields in the data of a picture's properties, and the refusals of a header by its fields.
 #![tactic(auto)]
 
-ghost use Rattle.std.specs.Prelude.{◌≡◌, [], ◌+◌, ◌*◌, ◌≤◌, length};
+ghost use Rattle.std.specs.Prelude.{◌≡◌, [], ◌+◌, ◌≤◌, length, OnOk};
 ghost use Rattle.iff_chunk.specs.Chunks.{word};
 ghost use Rattle.ilbm_spec.specs.Pictures.{u16, signed, header_in, hot_spot_in, destination_in, empty_fields, fields_refusal};
 
 use iff_chunk::size_at;
+use iff_refusal::Reason;
 use ilbm_spec::{BitmapHeader, Destination, HotSpot};
-
-fn pair(a: u8, b: u8) -> u16
-    ensures { result ≡ a * 256 + b }
-{
-    (a as u16) * 256 + (b as u16)
-}
-
-fn signed(v: u16) -> i16
-    ensures { result ≡ signed v }
-{
-    if v < 32768 {
-        return v as i16;
-    }
-    let m = (65535 - v) as i16;
-    -1 - m
-}
 
 // A big-endian number of two bytes.
 pub fn word_at(d: &[u8], i: usize) -> u16
     requires { i + 2 ≤ length d.now }
     ensures { result ≡ u16 d.now i }
 {
-    pair(d[i], d[i + 1])
+    u16::from_be_bytes([d[i], d[i + 1]])
 }
 
 // A big-endian number of four bytes.
@@ -44,7 +29,7 @@ fn signed_at(d: &[u8], i: usize) -> i16
     requires { i + 2 ≤ length d.now }
     ensures { result ≡ signed (u16 d.now i) }
 {
-    signed(word_at(d, i))
+    i16::from_be_bytes([d[i], d[i + 1]])
 }
 
 // BMHD.
@@ -119,30 +104,26 @@ pub fn dest_fields(d: &[u8]) -> Destination
 pub fn empty_fields(w: u16, h: u16, planes: u8) -> bool
     ensures { result ≡ empty_fields w h planes }
 {
-    if w == 0 {
-        return true;
-    }
-    if h == 0 {
-        return true;
-    }
-    planes == 0
+    w == 0 || h == 0 || planes == 0
 }
 
 // 41, 42, 43, and 24 if the picture is empty: fields that can't be shown.
-pub fn fields_refusal(planes: u8, masking: u8, compression: u8, empty: bool) -> usize
-    ensures { result ≡ fields_refusal planes masking compression empty }
+#[tactic(auto, unfolding(ilbm_spec::specs::Pictures::fields_refusal))]
+pub fn fields_refusal(planes: u8, masking: u8, compression: u8, empty: bool) -> Result<(), Reason>
+    ensures answer { result ≡ fields_refusal planes masking compression empty }
+    ensures few_planes { OnOk result (planes ≤ 8) }
 {
     if 8 < planes {
-        return 41;
+        return Err(Reason::TooManyPlanes);
     }
     if 3 < masking {
-        return 42;
+        return Err(Reason::UnknownMasking);
     }
     if 1 < compression {
-        return 43;
+        return Err(Reason::UnknownCompression);
     }
     if empty {
-        return 24;
+        return Err(Reason::EmptyPicture);
     }
-    0
+    Ok(())
 }

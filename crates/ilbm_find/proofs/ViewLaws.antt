@@ -3,30 +3,42 @@ use Prim.Native.Nat.{ℕ, zero, suc, ◌+◌}
 use mathlib.Core.Path.{◌≡◌, refl, sym, ◌∙◌}
 use mathlib.Core.List.{List, [], ◌∷◌, append-nil}
 use lib.ListN.{drop}
-use borrow.Author.Tests.{eq-eqb, ne_eqb}
 use native.Mathlib.Omega.{arith}
-use Rattle.iff_chunk.specs.Chunks.{Chunks, none, Chunk, before, word}
+use Rattle.iff_chunk.specs.Chunks.{none, Chunk, before, word}
 use Rattle.iff_tree.specs.Judge.{Found, found, refused, read_file, verdict_of, check_of}
-use Rattle.iff_tree.specs.declared.Verdict.{Verdict}
-use Rattle.iff_tree.specs.declared.Verdict.TheVariants.{Refused}
 use Rattle.iff_walk.specs.Coming.{Sound}
 use Rattle.ilbm_spec.specs.declared.BitmapHeader.{BitmapHeader}
-use Rattle.ilbm_spec.specs.Contents.{Scope as Shares, no_scope, Content, content_of, contents_of}
-use Rattle.ilbm_spec.specs.Pictures.{picture_refusal, judged, pick_content, view_in, view_of}
+use Rattle.ilbm_spec.specs.Contents.{no_scope, Content, content_of, contents_of}
+use Rattle.ilbm_spec.specs.Pictures.{data_of, header_in, picture_refusal, passing, judged, pick_content, view_in, view_of}
 use Rattle.ilbm_members.specs.Members.{Holds, Row}
 use Rattle.ilbm_locate.specs.declared.Scope.{Scope}
-use Rattle.ilbm_locate.specs.declared.Spot.{Spot}
-use Rattle.ilbm_locate.specs.declared.Spot.TheVariants.{Here, Left}
-use Rattle.ilbm_locate.specs.Scopes.{ScopeIs, Scoped, none_shared}
-use Rattle.ilbm_locate.specs.Spots.{Opens, Spotted, Seeks}
+use Rattle.std.specs.declared.ops.ControlFlow.TheVariants.{Break, Continue}
+use Rattle.ilbm_locate.specs.Scopes.{Scoped, none_shared}
+use Rattle.ilbm_locate.specs.Spots.{Spot, Spotted, Seeks}
 use Rattle.ilbm_locate.proofs.ScopeLaws.{none_scoped}
 use Rattle.ilbm_content.specs.declared.Contents.{Contents}
-use Rattle.ilbm_content.specs.Held.{ContentIs}
-use Rattle.ilbm_refusals.specs.declared.Judgement.{Judgement}
-use Rattle.ilbm_refusals.specs.Refusals.{Full, JudgementIs}
-use Rattle.ilbm_find.specs.declared.View.{View}
-use Rattle.ilbm_find.specs.declared.View.TheVariants.{Seen, Refused as View-refused}
+use Rattle.ilbm_content.specs.Held.{ContentsAre, ContentIs}
+use Rattle.ilbm_refusals.specs.Refusals.{Full, judgement, JudgementIs}
 use Rattle.ilbm_find.specs.Seen.{ViewIs, Judged, FormIn, FormView}
+use Rattle.iff_refusal.specs.declared.Reason.TheVariants.{NoPicture}
+use Rattle.iff_refusal.specs.declared.Reason.{Reason}
+use Rattle.iff_refusal.specs.declared.Refusal.{Refusal}
+use Rattle.iff_refusal.specs.Numbers.{Answer, refusal, refusing}
+use Rattle.iff_tree.specs.declared.Accepted.{Accepted}
+use Rattle.std.specs.Prelude.{Result, Ok, Err}
+
+-- what is seen of a content that is judged
+seen :
+    (s : List ℕ) (c : Contents) (h : BitmapHeader) (x : Content) → ContentsAre s c x → (r : Result (Unit {0}) Reason) →
+    picture_refusal x ≡ r → Ok h ≡ judgement r (header_in (data_of x.bmhd)) → ViewIs s (Ok (c, h)) (passing r (found x))
+seen s c h x k (Ok u) e z = (x, refl, record { parts = k; sound = e; header = cc })
+seen s c h x k (Err n) e z = absurd (let z : ◌≡◌ {A = ℕ} 0 1 = cc in omega arith)
+
+unseen :
+    (n : Reason) (x : Content) (r : Result (Unit {0}) Reason) → Err n ≡ judgement r (header_in (data_of x.bmhd)) →
+    passing r (found x) ≡ refused n 0
+unseen n x (Ok u) z = absurd (let z : ◌≡◌ {A = ℕ} 0 1 = cc in omega arith)
+unseen n x (Err m) z = cc
 
 -- the FORM at a place
 module _ (s : List ℕ) (form : ℕ) (p : Scope) (z : ℕ) (i : z ≡ word s (form + 4)) where
@@ -40,25 +52,18 @@ module _ (s : List ℕ) (form : ℕ) (p : Scope) (z : ℕ) (i : z ≡ word s (fo
     pub form_full : FormIn s form p → Full s c
     form_full (G, scope, o, k) = (content_of form G scope, w.at G o.0 scope (rw i o.1) k)
 
-    module _ (r : Judgement) (v : JudgementIs s c r) where
-      pub form_seen : r.number ≡ 0 → FormView s form p (Seen c r.header)
-      form_seen j = record { at = go }
-        where
-          go : (G : Chunks) (scope : Shares) → Opens s form G → ScopeIs s p scope →
-              ViewIs s (Seen c r.header) (judged (content_of form G scope))
-          go G scope o k =
-              let x = w.at G o.0 scope (rw i o.1) k in
-              let e : picture_refusal (content_of form G scope) ≡ 0 = sym (v.number (content_of form G scope) x) ∙ j in
-              (content_of form G scope, rw (eq-eqb _ _ e), record { parts = x; sound = e; header = v.header (content_of form G scope) x j })
+    module _ (v : Result BitmapHeader Reason) (y : JudgementIs s c v) where
+      pub form_seen : (h : BitmapHeader) → v ≡ Ok h → FormView s form p (Ok (c, h))
+      form_seen h j = record {
+        at = λ G scope o k. let x = w.at G o.0 scope (rw i o.1) k in
+            seen s c h (content_of form G scope) x _ refl (sym j ∙ y.at (content_of form G scope) x);
+      }
 
-      pub form_refused : (r.number ≡ 0 → ⊥) → FormView s form p (View-refused r.number 0)
-      form_refused j = record { at = go }
-        where
-          go : (G : Chunks) (scope : Shares) → Opens s form G → ScopeIs s p scope →
-              ViewIs s (View-refused r.number 0) (judged (content_of form G scope))
-          go G scope o k =
-              let e = v.number (content_of form G scope) (w.at G o.0 scope (rw i o.1) k) in
-              rw (← e, ne_eqb _ _ j)
+      pub form_refused : (n : Reason) → v ≡ Err n → FormView s form p (refusing n 0)
+      form_refused n j = record {
+        at = λ G scope o k. let x = w.at G o.0 scope (rw i o.1) k in
+            unseen n (content_of form G scope) _ (sym j ∙ y.at (content_of form G scope) x);
+      }
 
 -- the picture of number i
 pub sound_holds : (s : List ℕ) (e : ℕ) (f : Sound s e) → Holds s 0 e (before f.chunk none) (drop e s)
@@ -72,7 +77,7 @@ sound_row s e f = (before f.chunk none, drop e s, sound_holds s e f)
 pub none_around : (s : List ℕ) (c : Scope) → c ≡ none_shared → Scoped s c
 none_around s c i = rw i (no_scope, none_scoped s)
 
-pick_none : (cs : List Content) (i : ℕ) → drop i cs ≡ [] → pick_content cs i ≡ refused 20 0
+pick_none : (cs : List Content) (i : ℕ) → drop i cs ≡ [] → pick_content cs i ≡ refused NoPicture 0
 unfolding pick_content
 pick_none [] zero e = refl
 pick_none [] (suc i) e = refl
@@ -94,28 +99,33 @@ module _ (s : List ℕ) (e i : ℕ) (f : Sound s e) (c : Scope) (l : c ≡ none_
   spotted : Spotted s i (contents_of f.chunk) r
   spotted = w.at (before f.chunk none) (drop e s) no_scope (sound_holds s e f) (rw l (none_scoped s))
 
-  pub spot_form : (a : ℕ) (b : Scope) → r ≡ Here a b → FormIn s a b
-  spot_form a b j = let x : Spotted s i (contents_of f.chunk) (Here a b) = rw j at spotted in (x.0, x.1, x.3, x.4)
+  pub spot_form : (a : ℕ) (b : Scope) → r ≡ Break (a, b) → FormIn s a b
+  spot_form a b j = let x : Spotted s i (contents_of f.chunk) (Break (a, b)) = rw j at spotted in (x.0, x.1, x.3, x.4)
 
-  pub view_here : (a : ℕ) (b : Scope) (v : View) → r ≡ Here a b → FormView s a b v → ViewIs s v (view_of s i)
+  pub view_here :
+      (a : ℕ) (b : Scope) (v : Answer (Contents × BitmapHeader)) → r ≡ Break (a, b) → FormView s a b v →
+      ViewIs s v (view_of s i)
   view_here a b v j k =
-      let x : Spotted s i (contents_of f.chunk) (Here a b) = rw j at spotted in
+      let x : Spotted s i (contents_of f.chunk) (Break (a, b)) = rw j at spotted in
       let y = pick_some (contents_of f.chunk) i (content_of a x.0 x.1) x.2 x.5 in
       rw (f.read, y) (k.at x.0 x.1 x.3 x.4)
 
-  pub view_left : (m : ℕ) → r ≡ Left m → view_of s i ≡ refused 20 0
-  view_left m j =
-      let x : Spotted s i (contents_of f.chunk) (Left m) = rw j at spotted in
-      let d : drop i (contents_of f.chunk) ≡ [] = rw append-nil at (x []) ∙ drop_none m in
-      rw f.read (pick_none (contents_of f.chunk) i d)
+  pub view_left : (m : ℕ) (x : Refusal) → r ≡ Continue m → x ≡ refusal NoPicture 0 → view_of s i ≡ refused x.reason x.place
+  view_left m x j y =
+      let u : Spotted s i (contents_of f.chunk) (Continue m) = rw j at spotted in
+      let d : drop i (contents_of f.chunk) ≡ [] = rw append-nil at (u []) ∙ drop_none m in
+      rw (y, f.read) (pick_none (contents_of f.chunk) i d)
 
-refused_view : (s : List ℕ) (i : ℕ) (f : Found Chunk) (k p : ℕ) → Refused k p ≡ verdict_of s f → view_in f i ≡ refused k p
-refused_view s i (found c) k p e = absurd (let z : ◌≡◌ {A = ℕ} 0 1 = cc in omega arith)
-refused_view s i (refused a b) k p e = cc
+refused_view : (s : List ℕ) (i : ℕ) (f : Found Chunk) (r : Refusal) → Err r ≡ verdict_of s f → view_in f i ≡ refused r.reason r.place
+refused_view s i (found c) r e = absurd (let z : ◌≡◌ {A = ℕ} 0 1 = cc in omega arith)
+refused_view s i (refused a b) r e = cc
 
-pub view_refused : (s : List ℕ) (i : ℕ) (v : Verdict) (k p : ℕ) → v ≡ check_of s → v ≡ Refused k p → view_of s i ≡ refused k p
-view_refused s i v k p a b = refused_view s i (read_file s) k p (sym b ∙ a)
+pub view_refused :
+    (s : List ℕ) (i : ℕ) (v : Answer Accepted) (r : Refusal) → v ≡ check_of s → v ≡ Err r →
+    view_of s i ≡ refused r.reason r.place
+view_refused s i v r a b = refused_view s i (read_file s) r (sym b ∙ a)
 
 pub seen_judged :
-    (s : List ℕ) (i : ℕ) (v : View) → ViewIs s v (view_of s i) → (c : Contents) (b : BitmapHeader) → v ≡ Seen c b → Judged s c b
-seen_judged s i v w c b j = let x : ViewIs s (Seen c b) (view_of s i) = rw j at w in (x.0, x.2)
+    (s : List ℕ) (i : ℕ) (v : Answer (Contents × BitmapHeader)) → ViewIs s v (view_of s i) → (c : Contents) (b : BitmapHeader) →
+    v ≡ Ok (c, b) → Judged s c b
+seen_judged s i v w c b j = let x : ViewIs s (Ok (c, b)) (view_of s i) = rw j at w in (x.0, x.2)

@@ -4,7 +4,7 @@ use mathlib.Core.Path.{◌≡◌, refl, sym, ap, ◌∙◌}
 use mathlib.Core.List.{List, [], ◌∷◌, ◌++◌}
 use lib.ListN.{length, get_or, take, drop, set}
 use lib.Pow.{pow_mono}
-use lib.Seq.{get_or-take, get_or-drop, take-suc-set, take_all}
+use lib.Seq.{get_or-take, get_or-drop, take-suc-set}
 use mir.Syntax.{w64}
 use mir.Val.{Fits}
 use native.Mathlib.Nat.{mul_assoc, suc-mul, mul-le-mul_right, pow-suc, mod-lt}
@@ -79,12 +79,6 @@ module _ (buffer : List ℕ) (n planes x : ℕ) (h : planes ≤ 8) where
         rw (row_bit n (k - 1) x buffer m, i, c.is) in
         coloured (k - 1) (colour * 2 + b / 2 ^ (7 - x % 8) % 2) (rw (e, f) (sym g))
 
-    pub coloured_end : k ≤ 0 → colour ≡ colour_by 1 x (rows_in n planes 0 buffer)
-    coloured_end h =
-        let e : k ≡ 0 = omega arith in
-        let f : planes - 0 ≡ planes = omega arith in
-        rw (e, f) at c.is
-
 -- a byte of row k
 module _ (k planes n i len : ℕ) (h : k < planes) (l : planes * n ≤ len) where
   pub byte_inside : i < n → k * n + i < len
@@ -97,11 +91,7 @@ module _ (k planes n i len : ℕ) (h : k < planes) (l : planes * n ≤ len) wher
     pub start_fits : Fits w64 (k * n)
     start_fits = omega (arith, row_room k planes n h)
 
--- row k - 1, of which the loop has told that it is there
-pub row_before : (k planes : ℕ) → 0 < k → k ≤ planes → k - 1 < planes
-row_before k planes h l = omega arith
-
-pub ruleset colouring = (coloured_start, coloured_more, coloured_end, row_before, byte_inside, byte_fits, start_fits)
+pub ruleset colouring = (coloured_start, coloured_more, byte_inside, byte_fits, start_fits)
 
 -- one more pixel
 colours_last : (x n : ℕ) (rows : List (List ℕ)) → colours_from x (suc n) rows ≡ colours_from x n rows ++ (colour_by 1 (x + n) rows ∷ [])
@@ -119,22 +109,10 @@ module _ (plane_rows : List (List ℕ)) where
   unfolding colours_from
   gathered_start row = record { is = refl }
 
-  pub gathered_from : (x : ℕ) (row : List ℕ) → take x row ≡ colours_from 0 x plane_rows → Gathered plane_rows x row
-  gathered_from x row e = record { is = e }
-
   module _ (x : ℕ) (row : List ℕ) (g : Gathered plane_rows x row) where
     pub gathered_more : (colour : ℕ) → x < length row → colour ≡ colour_by 1 x plane_rows → Gathered plane_rows (x + 1) (set row x colour)
     gathered_more colour h e =
         let z : 0 + x ≡ x = omega arith in
         record { is = rw (add-one, take-suc-set row x colour h, g.is, colours_last 0 x plane_rows, z, e) }
 
-    pub gathered_end : (m : ℕ) → length row ≡ m → m ≤ x → x ≤ m → row ≡ colours_from 0 m plane_rows
-    gathered_end m l a b =
-        let e : m ≡ x = omega arith in
-        sym (take_all x row (omega arith)) ∙ g.is ∙ rw e
-
--- the byte of pixel x lies inside its row
-pub pixel_inside : (x w n : ℕ) → x < w → w ≤ n * 8 → x / 8 < n
-pixel_inside x w n h l = omega arith
-
-pub ruleset gathering = (gathered_start, gathered_from, gathered_more, gathered_end, pixel_inside)
+pub ruleset gathering = (gathered_start, gathered_more)

@@ -1,6 +1,6 @@
 -- Eight pixels as one word: a plane doubles each of them and adds its bits, and the bytes of the word are their colours.
 use Prim.Native.Nat.{ℕ, zero, suc, ◌+◌, ◌-◌, ◌*◌, ◌/◌, ◌%◌, ◌^◌, ◌<◌, ◌≤◌}
-use mathlib.Core.Path.{◌≡◌, refl, sym, ap, ◌∙◌}
+use mathlib.Core.Path.{◌≡◌, sym, ap, ◌∙◌}
 use mathlib.Core.List.{List, [], ◌∷◌, ◌++◌}
 use lib.ListN.{length, get_or, take, drop}
 use lib.Seq.{paste, take-paste}
@@ -145,9 +145,3 @@ module _ (buffer : List ℕ) (n planes : ℕ) (h : planes ≤ 8) (j v : ℕ) (ro
       rw p (take-paste row (8 * j) (bytes_of v) 8 (omega arith) (omega arith)) in
       let q : bytes_of v ≡ colours_from (8 * j) 8 rows = rw (e, f, colours_eight (8 * j) rows) b in
       record { is = rw (y, t, g.is, q) (sym (rw z at (colours_append 0 (8 * j) 8 (rows_in n planes 0 buffer)))) }
-
--- the place of a byte of pixels
-pub byte_room : (j bytes len len' : ℕ) → j < len / 8 → len' ≡ len → 8 * j + 8 ≤ len'
-byte_room j bytes len len' h e = omega arith
-
-pub ruleset eights = (gathered_eight, byte_room)

@@ -25,9 +25,7 @@ fn colour_at(buffer: &[u8], n: usize, planes: usize, x: usize) -> u8
     let byte = x / 8;
     let place = 7 - x % 8;
     let mut colour: usize = 0;
-    let mut k = planes;
-    while 0 < k {
-        k = k - 1;
+    for k in (0..planes).rev() {
         colour = colour * 2 + (wide(buffer[k * n + byte]) >> place) % 2;
     }
     colour as u8
@@ -95,12 +93,10 @@ fn gather_bytes(table: &[u64; 256], buffer: &[u8], n: usize, planes: usize, row:
         × (take result row.new ≡ colours_from 0 result (rows_in n planes 0 buffer.now)) }
 {
     let bytes = row.len() / 8;
-    let mut j = 0;
-    while j < bytes {
+    for j in 0..bytes {
         put_word(row, 8 * j, eight_at(table, buffer, n, planes, j));
-        j = j + 1;
     }
-    8 * j
+    8 * bytes
 }
 
 // The colour numbers of a row of pixels.
@@ -109,9 +105,8 @@ pub fn gather(table: &[u64; 256], buffer: &[u8], n: usize, planes: usize, row: &
     requires spread { IsSpread table.now }
     ensures { row.new ≡ colours_from 0 (length row.old) (rows_in n planes 0 buffer.now) }
 {
-    let mut x = gather_bytes(table, buffer, n, planes, row);
-    while x < row.len() {
+    let done = gather_bytes(table, buffer, n, planes, row);
+    for x in done..row.len() {
         row[x] = colour_at(buffer, n, planes, x);
-        x = x + 1;
     }
 }

@@ -4,7 +4,8 @@ use Prim.Native.Nat.{ℕ, ◌+◌, ◌≤◌}
 use mathlib.Core.Path.{◌≡◌, refl, sym, ap, ◌∙◌}
 use mathlib.Core.Bool.{Bool, true, false}
 use mathlib.Core.List.{List, ◌++◌}
-use mathlib.Core.Option.{Option, some, none as nothing}
+use Rattle.std.specs.Prelude.{Option, Some, None}
+use mathlib.Core.Option.{Option as Maybe, some, none as nothing}
 use borrow.Author.Tests.{eq-eqb, ne_eqb}
 use native.Mathlib.Omega.{arith}
 use Rattle.iff_name.specs.Codes.{LIST}
@@ -17,7 +18,7 @@ use Rattle.ilbm_members.specs.declared.Sibling.{Sibling}
 use Rattle.ilbm_members.specs.declared.Gathered.{Gathered}
 use Rattle.ilbm_members.specs.Members.{Holds, Marks, Front, Tells}
 use Rattle.ilbm_members.specs.Gathers.{Gathers}
-use Rattle.ilbm_members.proofs.Laws.{row_next, row_le, more_room, more_less, leaf_steps, group_steps}
+use Rattle.ilbm_members.proofs.Laws.{row_next, row_le, more_room, more_less, leaf_steps, group_steps, none_some, some_same}
 use Rattle.ilbm_locate.specs.declared.Shared.{Shared}
 use Rattle.ilbm_locate.specs.declared.Scope.{Scope}
 use Rattle.ilbm_locate.specs.Scopes.{SharedIs, ScopeIs, none_shared, Nearer, PropGives, ListGives, GivesInside}
@@ -27,23 +28,23 @@ use Rattle.ilbm_locate.proofs.Laws.{never, inner_holds, name_here, tested_group}
 pub none_scoped : (s : List ℕ) → ScopeIs s none_shared no_scope
 none_scoped s = record { bmhd = refl; cmap = refl; grab = refl; dest = refl; sprt = refl; camg = refl }
 
--- no chunk stands at 0: there the outer property is kept
-module _ (q k : ℕ) (h : Shared) where
-  pub nearer_outer : k ≡ 0 → Nearer q k h h
+-- the PROP's own property, or, where it has none, the outer one
+module _ (q : ℕ) (k : Option ℕ) (h : Option Shared) where
+  pub nearer_outer : k ≡ None → Nearer q k h h
   nearer_outer z = record { at = go }
     where
-      go : (s : List ℕ) (o : Option Located) (outer : Property) → Marks s k o → SharedIs s h outer → SharedIs s h (shared_or q o outer)
-      go s (some x) outer m i = absurd (omega (arith, m.1))
+      go : (s : List ℕ) (o : Maybe Located) (outer : Property) → Marks s k o → SharedIs s h outer → SharedIs s h (shared_or q o outer)
+      go s (some x) outer m i = absurd (none_some k x.place z m.0)
       go s nothing outer m i = i
 
-  pub nearer_own : (k ≡ 0 → ⊥) → Nearer q k h (record { prop = q; place = k })
-  nearer_own z = record { at = go }
+  pub nearer_own : (p : ℕ) → k ≡ Some p → Nearer q k h (Some (record { prop = q; place = p }))
+  nearer_own p z = record { at = go }
     where
       go :
-          (s : List ℕ) (o : Option Located) (outer : Property) → Marks s k o → SharedIs s h outer →
-          SharedIs s (record { prop = q; place = k }) (shared_or q o outer)
-      go s (some x) outer m i = (refl, m)
-      go s nothing outer m i = absurd (z m)
+          (s : List ℕ) (o : Maybe Located) (outer : Property) → Marks s k o → SharedIs s h outer →
+          SharedIs s (Some (record { prop = q; place = p })) (shared_or q o outer)
+      go s (some x) outer m i = let j : p ≡ x.place = some_same k p x.place z m.0 in (rw j refl, m.1)
+      go s nothing outer m i = absurd (none_some k p m z)
 
 -- each property by itself: what one pass over a PROP gathers for its name, or else what is shared further out
 pub prop_gives :
@@ -57,7 +58,7 @@ prop_gives s q z g c r i w bmhd cmap grab dest sprt camg = record { at = go }
         ScopeIs s r (prop_scope q G scope)
     go G R scope h y =
         let k : Holds s (q + 12) (q + 8 + z) G R = rw i h in
-        let last : ℕ → Option Located = λ name. last_named nowhere name (q + 12) nothing G in
+        let last : ℕ → Maybe Located = λ name. last_named nowhere name (q + 12) nothing G in
         record {
           bmhd = bmhd.at s (last BMHD) (scope BMHD) (w.last.bmhd.at G R k) y.bmhd;
           cmap = cmap.at s (last CMAP) (scope CMAP) (w.last.cmap.at G R k) y.cmap;

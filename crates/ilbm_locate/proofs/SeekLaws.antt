@@ -17,9 +17,8 @@ use Rattle.ilbm_spec.specs.Names.{is_picture}
 use Rattle.ilbm_spec.specs.Contents.{Scope as Shares, scope_inside, Content, content_of, contents_from}
 use Rattle.ilbm_members.specs.declared.Sibling.{Sibling}
 use Rattle.ilbm_members.specs.Members.{Holds, Row, Front, Tells}
-use Rattle.ilbm_locate.specs.declared.Spot.{Spot}
-use Rattle.ilbm_locate.specs.declared.Spot.TheVariants.{Here, Left}
-use Rattle.ilbm_locate.specs.Spots.{Spotted, group_is, contents_here, Seeks, Visits, Enters, IsGroup, GroupAt}
+use Rattle.std.specs.declared.ops.ControlFlow.TheVariants.{Break, Continue}
+use Rattle.ilbm_locate.specs.Spots.{Spot, Spotted, group_is, contents_here, Seeks, Visits, Enters, IsGroup, GroupAt}
 use Rattle.ilbm_locate.specs.Scopes.{ScopeIs, Scoped, GivesInside}
 use Rattle.ilbm_locate.specs.declared.Scope.{Scope}
 use Rattle.ilbm_locate.proofs.Laws.{never, empty, inner_holds, opens_here, name_here, leaf_no_group, group_is_lem}
@@ -35,8 +34,8 @@ drop_before (suc k) (c ∷ cs) ds x rest e = drop_before k cs ds x rest e
 
 -- with one picture more in front
 spotted_past : (s : List ℕ) (k : ℕ) (x : Content) (cs : List Content) (r : Spot) → Spotted s k cs r → Spotted s (suc k) (x ∷ cs) r
-spotted_past s k x cs (Here f g) w = w
-spotted_past s k x cs (Left m) w = w
+spotted_past s k x cs (Break (f, g)) w = w
+spotted_past s k x cs (Continue m) w = w
 
 -- where there are no groups there are no pictures
 flat_contents : (F : Chunks) → Flat F → (p : ℕ) (scope : Shares) → contents_from p scope F ≡ []
@@ -46,11 +45,11 @@ flat_contents (leaf n d pd F) f p scope = flat_contents F f _ scope
 flat_contents (group n t G F) f p scope = absurd f
 
 module _ (s : List ℕ) (q e : ℕ) (prop : Scope) where
-  spotted_here : (b : Bool) (k : ℕ) → IsGroup s q e is_picture b → b ≡ true → k ≡ 0 → Visits s q e prop k (Here q prop)
+  spotted_here : (b : Bool) (k : ℕ) → IsGroup s q e is_picture b → b ≡ true → k ≡ 0 → Visits s q e prop k (Break (q, prop))
   spotted_here b k g i z = record { at = λ F R scope h c. go F R scope h c (g.at F R h) }
     where
       go : (F : Chunks) (R : List ℕ) (scope : Shares) → Holds s q e F R → ScopeIs s prop scope → b ≡ group_is is_picture F →
-          Spotted s k (contents_here q scope F) (Here q prop)
+          Spotted s k (contents_here q scope F) (Break (q, prop))
       go none R scope h c y = never (sym i ∙ y)
       go (leaf n d pd F) R scope h c y = never (sym i ∙ y)
       go (group n t G F) R scope h c y =
@@ -84,7 +83,7 @@ module _ (s : List ℕ) (q e : ℕ) (prop : Scope) where
 
   -- as the code reads name and type
   module _ (n t : ℕ) (b : Bool) (a : GroupAt s q e) (i : n ≡ word s q) (j : t ≡ word s (q + 8)) (y : b ≡ is_picture n t) where
-    pub picture_here : (k : ℕ) → b ≡ true → k ≡ 0 → Visits s q e prop k (Here q prop)
+    pub picture_here : (k : ℕ) → b ≡ true → k ≡ 0 → Visits s q e prop k (Break (q, prop))
     picture_here k z w = spotted_here b k (group_is_lem s q e n t is_picture b a i j y) z w
 
     pub picture_later : (k : ℕ) (r : Spot) → b ≡ true → (k ≡ 0 → ⊥) → Enters s q e prop (k - 1) r → Visits s q e prop k r
@@ -103,7 +102,7 @@ module _ (s : List ℕ) (q e : ℕ) (prop : Scope) where
       let p = prop_name n h.regular.0 y in
       rw (p, flat_contents G (h.regular.5 p) (q + 12) scope)
 
-  pub none_visited : (k : ℕ) → is_section (kind_of (word s q)) ≡ false → Visits s q e prop k (Left k)
+  pub none_visited : (k : ℕ) → is_section (kind_of (word s q)) ≡ false → Visits s q e prop k (Continue k)
   none_visited k g = record { at = λ F R scope h c. rw (none_here F R scope h g) (λ Y. refl) }
 
   -- what is inside a group
@@ -148,7 +147,7 @@ module _ (s : List ℕ) (q e : ℕ) (m : Sibling) (t : Tells s q e m) where
           (K, f.1, rw (j, append_assoc))
 
   module _ (p : ℕ) (prop : Scope) (k left : ℕ) (v : Spot) (w : Passing s p e prop k q left) (y : Visits s q e prop left v) where
-    pub passing_more : (a : ℕ) → v ≡ Left a → Passing s p e prop k m.next a
+    pub passing_more : (a : ℕ) → v ≡ Continue a → Passing s p e prop k m.next a
     passing_more a i = record { at = go }
       where
         go :
@@ -172,15 +171,15 @@ split_any q scope (group n x G K) = (contents_from (q + (12 + length (bytes G)))
 
 module _
     (s : List ℕ) (p e : ℕ) (prop : Scope) (k q left : ℕ) (v : Spot) (w : Passing s p e prop k q left) (y : Visits s q e prop left v) where
-  pub passing_here : (f : ℕ) (g : Scope) → v ≡ Here f g → Seeks s p e prop k (Here f g)
-  passing_here f g i = record { at = go }
+  pub passing_here : (x : ℕ × Scope) (r : Spot) → r ≡ Break x → v ≡ Break x → Seeks s p e prop k r
+  passing_here (f, g) r j i = rw j (record { at = go })
     where
       go : (F : Chunks) (R : List ℕ) (scope : Shares) → Holds s p e F R → ScopeIs s prop scope →
-          Spotted s k (contents_from p scope F) (Here f g)
+          Spotted s k (contents_from p scope F) (Break (f, g))
       go F R scope h c =
           let x = w.at F R scope h c in
           let z = split_any q scope x.0 in
-          let u : Spotted s left (contents_here q scope x.0) (Here f g) = rw i at (y.at x.0 R scope x.1 c) in
+          let u : Spotted s left (contents_here q scope x.0) (Break (f, g)) = rw i at (y.at x.0 R scope x.1 c) in
           let d : drop left (contents_from q scope x.0) ≡ content_of f u.0 u.1 ∷ (u.2 ++ z.0) =
           rw z.1 (drop_before left (contents_here q scope x.0) z.0 (content_of f u.0 u.1) u.2 u.5) in
           (u.0, u.1, u.2 ++ z.0, u.3, u.4, (rw (append-nil, append-nil) at (x.2 [])) ∙ d)
@@ -189,14 +188,14 @@ module _ (s : List ℕ) (p e : ℕ) (prop : Scope) (k : ℕ) where
   pub passing_start : Passing s p e prop k p k
   passing_start = record { at = λ F R scope h c. (F, h, λ Y. refl) }
 
-  pub passing_end : (q left : ℕ) → e ≤ q → Passing s p e prop k q left → Seeks s p e prop k (Left left)
+  pub passing_end : (q left : ℕ) → e ≤ q → Passing s p e prop k q left → Seeks s p e prop k (Continue left)
   unfolding contents_from
   passing_end q left l w = record { at = λ F R scope h c. let x = w.at F R scope h c in go F scope x.0 R x.1 x.2 }
     where
       go :
           (F : Chunks) (scope : Shares) (K : Chunks) (R : List ℕ) → Holds s q e K R →
           ((Y : List Content) → drop k (contents_from p scope F ++ Y) ≡ drop left (contents_from q scope K ++ Y)) →
-          Spotted s k (contents_from p scope F) (Left left)
+          Spotted s k (contents_from p scope F) (Continue left)
       go F scope none R h u = u
       go F scope (leaf n d pd K) R h u = absurd (omega (arith, length_leaf n d pd K, h.ends))
       go F scope (group n x G K) R h u = absurd (omega (arith, length_group n x G K, h.ends))
@@ -206,7 +205,7 @@ module _ (s : List ℕ) (q e n : ℕ) (x : n ≡ word s q) (i : Kind) (y : i ≡
   pub section_at : Row s q e → q < e → b ≡ true → GroupAt s q e
   section_at r l g = (r, l, section_group (kind_of (word s q)) (rw (← x, ← y, ← z) g))
 
-  pub none_passed : (prop : Scope) (k : ℕ) → b ≡ false → Visits s q e prop k (Left k)
+  pub none_passed : (prop : Scope) (k : ℕ) → b ≡ false → Visits s q e prop k (Continue k)
   none_passed prop k g = none_visited s q e prop k (rw (← x, ← y, ← z) g)
 
 pub visit_less : (p e q : ℕ) → p ≤ q → q < e → (e - q) * 4 + 2 < (e - p) * 4 + 3

@@ -1,18 +1,20 @@
 -- What the PROPs around a picture share, as places in a sound file.
 use Rattle.std.specs.Prelude.{ℕ, ◌+◌, ◌≡◌, List}
-use Rattle.std.proofs.Math.Option.{Option, some}
+use Rattle.std.specs.Prelude.{Option, Some, None}
+use Rattle.std.proofs.Math.Option.{Option as Maybe}
 use Rattle.iff_chunk.specs.Chunks.{Chunks, group, word}
 use Rattle.ilbm_spec.specs.Names.{BMHD, CMAP, GRAB, DEST, SPRT, CAMG}
-use Rattle.ilbm_spec.specs.Contents.{Located, Property, own, shared, absent, shared_or, Scope as Shares, prop_scope, list_scope, scope_inside}
-use Rattle.ilbm_members.specs.Members.{Holds, Marks}
+use Rattle.ilbm_spec.specs.Contents.{Located, Property, own, shared, absent, shared_or}
+use Rattle.ilbm_spec.specs.Contents.{Scope as Shares, prop_scope, list_scope, scope_inside}
+use Rattle.ilbm_members.specs.Members.{Holds, Marks, Stands}
 use Rattle.ilbm_locate.specs.declared.Shared.{Shared}
 use Rattle.ilbm_locate.specs.declared.Scope.{Scope}
 
--- the places are those of this shared property
-abbrev pub SharedIs : List ℕ → Shared → Property → Type 0
+-- the places are those of this shared property, and none where it is absent
+abbrev pub SharedIs : List ℕ → Option Shared → Property → Type 0
 SharedIs s h (own x) = ⊥
-SharedIs s h (shared p x) = (h.prop ≡ p) × Marks s h.place (some x)
-SharedIs s h absent = h.place ≡ 0
+SharedIs s h (shared p x) = (h ≡ Some (record { prop = p; place = x.place })) × Stands s x
+SharedIs s h absent = h ≡ None
 
 pub record ScopeIs (s : List ℕ) (c : Scope) (scope : Shares) : Type 0 where
   pub bmhd : SharedIs s c.bmhd (scope BMHD)
@@ -27,19 +29,11 @@ abbrev pub Scoped : List ℕ → Scope → Type 0
 Scoped s c = (scope : Shares) × ScopeIs s c scope
 
 abbrev pub none_shared : Scope
-none_shared =
-    record {
-      bmhd = record { prop = 0; place = 0 };
-      cmap = record { prop = 0; place = 0 };
-      grab = record { prop = 0; place = 0 };
-      dest = record { prop = 0; place = 0 };
-      sprt = record { prop = 0; place = 0 };
-      camg = record { prop = 0; place = 0 };
-    }
+none_shared = record { bmhd = None; cmap = None; grab = None; dest = None; sprt = None; camg = None }
 
 -- r tells the property at a place k in the PROP at q, or, where there is none, the outer one, which h tells
-pub record Nearer (q k : ℕ) (h r : Shared) : Type 0 where
-  pub at : (s : List ℕ) (o : Option Located) (outer : Property) → Marks s k o → SharedIs s h outer → SharedIs s r (shared_or q o outer)
+pub record Nearer (q : ℕ) (k : Option ℕ) (h r : Option Shared) : Type 0 where
+  pub at : (s : List ℕ) (o : Maybe Located) (outer : Property) → Marks s k o → SharedIs s h outer → SharedIs s r (shared_or q o outer)
 
 -- r tells the scope that the PROP at q makes, where c tells the scope around its LIST
 pub record PropGives (s : List ℕ) (q : ℕ) (c r : Scope) : Type 0 where

@@ -1,5 +1,7 @@
 -- Where a picture of a given number stands in a sound file.
 use Rattle.std.specs.Prelude.{ℕ, ◌+◌, ◌<◌, ◌≡◌, Bool, true, false, List, [], ◌∷◌, ◌++◌, drop}
+use Rattle.std.specs.declared.ops.ControlFlow.{ControlFlow}
+use Rattle.std.specs.declared.ops.ControlFlow.TheVariants.{Break, Continue}
 use Rattle.iff_name.specs.Name.{pick, kind_of}
 use Rattle.iff_rules.specs.Rules.{is_group}
 use Rattle.iff_chunk.specs.Chunks.{Chunks, none, leaf, group, word}
@@ -7,19 +9,21 @@ use Rattle.ilbm_spec.specs.Names.{is_picture}
 use Rattle.ilbm_spec.specs.Contents.{Scope as Shares, scope_inside, Content, content_of, contents_from}
 use Rattle.ilbm_members.specs.Members.{Holds, Row}
 use Rattle.ilbm_locate.specs.declared.Scope.{Scope}
-use Rattle.ilbm_locate.specs.declared.Spot.{Spot}
-use Rattle.ilbm_locate.specs.declared.Spot.TheVariants.{Here, Left}
 use Rattle.ilbm_locate.specs.Scopes.{ScopeIs}
 
 -- the group at q has the members G
 abbrev pub Opens : List ℕ → ℕ → Chunks → Type 0
 Opens s q G = (R : List ℕ) × Holds s (q + 12) (q + 8 + word s (q + 4)) G R
 
+-- the FORM's place and what is shared there; or how many pictures are left to pass
+abbrev pub Spot : Type 0
+Spot = ControlFlow (ℕ × Scope) ℕ
+
 -- The picture of number k among these is the FORM at a place in a scope; or there are too few, and so many are left to pass.
 abbrev pub Spotted : List ℕ → ℕ → List Content → Spot → Type 0
-Spotted s k cs (Here f c) =
+Spotted s k cs (Break (f, c)) =
     (G : Chunks) × (scope : Shares) × (rest : List Content) × Opens s f G × ScopeIs s c scope × (drop k cs ≡ content_of f G scope ∷ rest)
-Spotted s k cs (Left m) = (Y : List Content) → drop k (cs ++ Y) ≡ drop m Y
+Spotted s k cs (Continue m) = (Y : List Content) → drop k (cs ++ Y) ≡ drop m Y
 
 -- whether the first of some chunks is a group whose name and type pass a test
 abbrev pub group_is : (ℕ → ℕ → Bool) → Chunks → Bool

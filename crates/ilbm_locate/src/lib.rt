@@ -12,44 +12,40 @@ use iff_name::Name;
 use iff_rules::{is_group, is_section};
 use ilbm_members::{gather, sibling_at};
 use ilbm_names::{is_picture, is_shared_prop};
+use std::ops::ControlFlow;
 
-// A property that a PROP shares: the PROP's place, and the property's own, 0 for none.
+// A property that a PROP shares: the PROP's place, and the property's own.
 #[derive(Clone, Copy)]
 pub struct Shared {
     pub prop: usize,
     pub place: usize,
 }
 
-// What the PROPs around a chunk share.
+// What the PROPs around a chunk share: each property, if one of them has it.
 #[derive(Clone, Copy)]
 pub struct Scope {
-    pub bmhd: Shared,
-    pub cmap: Shared,
-    pub grab: Shared,
-    pub dest: Shared,
-    pub sprt: Shared,
-    pub camg: Shared,
+    pub bmhd: Option<Shared>,
+    pub cmap: Option<Shared>,
+    pub grab: Option<Shared>,
+    pub dest: Option<Shared>,
+    pub sprt: Option<Shared>,
+    pub camg: Option<Shared>,
 }
 
 // The FORM's place and what is shared there; or how many pictures are left to pass.
-#[derive(Clone, Copy)]
-pub enum Spot {
-    Here(usize, Scope),
-    Left(usize),
-}
+pub type Spot = ControlFlow<(usize, Scope), usize>;
 
 // Outside every LIST nothing is shared.
 pub fn none_shared() -> Scope
     ensures { result ≡ none_shared }
 {
-    let none = Shared { prop: 0, place: 0 };
     Scope {
-        bmhd: none,
-        cmap: none,
-        grab: none,
-        dest: none,
-        sprt: none,
-        camg: none,
+        bmhd: None,
+        cmap: None,
+        grab: None,
+        dest: None,
+        sprt: None,
+        camg: None,
     }
 }
 
@@ -66,13 +62,12 @@ fn shared_prop_at(s: &[u8], q: usize, e: usize) -> bool
 }
 
 // The property at a place in the PROP at q, or, where the PROP has none, the one shared further out.
-fn nearer_of(q: usize, place: usize, outer: Shared) -> Shared
+fn nearer_of(q: usize, place: Option<usize>, outer: Option<Shared>) -> Option<Shared>
     ensures { Nearer q place outer result }
 {
-    if place == 0 {
-        outer
-    } else {
-        Shared { prop: q, place }
+    match place {
+        Some(place) => Some(Shared { prop: q, place }),
+        None => outer,
     }
 }
 
@@ -83,19 +78,13 @@ fn prop_scope(s: &[u8], q: usize, e: usize, scope: Scope) -> Scope
 {
     let end = q + 8 + size_at(s, q + 4);
     let g = gather(s, q + 12, end, true);
-    let bmhd = scope.bmhd;
-    let cmap = scope.cmap;
-    let grab = scope.grab;
-    let dest = scope.dest;
-    let sprt = scope.sprt;
-    let camg = scope.camg;
     Scope {
-        bmhd: nearer_of(q, g.bmhd, bmhd),
-        cmap: nearer_of(q, g.cmap, cmap),
-        grab: nearer_of(q, g.grab, grab),
-        dest: nearer_of(q, g.dest, dest),
-        sprt: nearer_of(q, g.sprt, sprt),
-        camg: nearer_of(q, g.camg, camg),
+        bmhd: nearer_of(q, g.bmhd, scope.bmhd),
+        cmap: nearer_of(q, g.cmap, scope.cmap),
+        grab: nearer_of(q, g.grab, scope.grab),
+        dest: nearer_of(q, g.dest, scope.dest),
+        sprt: nearer_of(q, g.sprt, scope.sprt),
+        camg: nearer_of(q, g.camg, scope.camg),
     }
 }
 
@@ -145,7 +134,7 @@ fn open(s: &[u8], q: usize, e: usize, scope: Scope, k: usize) -> Spot
 {
     if is_picture(name_at(s, q), name_at(s, q + 8)) {
         if k == 0 {
-            return Spot::Here(q, scope);
+            return ControlFlow::Break((q, scope));
         }
         return enter(s, q, e, scope, k - 1);
     }
@@ -162,7 +151,7 @@ fn visit(s: &[u8], q: usize, e: usize, scope: Scope, k: usize) -> Spot
     if is_section(n.kind()) {
         return open(s, q, e, scope, k);
     }
-    Spot::Left(k)
+    ControlFlow::Continue(k)
 }
 
 // The same for all members from p to e.
@@ -174,16 +163,8 @@ pub fn seek(s: &[u8], p: usize, e: usize, scope: Scope, k: usize) -> Spot
     let mut q = p;
     let mut left = k;
     while q < e {
-        let v = visit(s, q, e, scope, left);
-        match v {
-            Spot::Here(form, shared) => {
-                return Spot::Here(form, shared);
-            }
-            Spot::Left(m) => {
-                left = m;
-            }
-        }
+        left = visit(s, q, e, scope, left)?;
         q = sibling_at(s, q, e).next;
     }
-    Spot::Left(left)
+    ControlFlow::Continue(left)
 }

@@ -1,6 +1,7 @@
 -- What one turn of a loop over members does: the first chunk is read, and the loop goes on with those after it.
 use Prim.Native.Nat.{ℕ, ◌+◌, ◌-◌, ◌*◌, ◌/◌, ◌≤◌, ◌<◌}
 use mathlib.Core.Path.{◌≡◌, refl, ◌∙◌}
+use Rattle.std.specs.Prelude.{Option, Some, None}
 use mathlib.Core.Bool.{true, false}
 use mathlib.Core.List.{List}
 use lib.Dec.{eqb}
@@ -120,3 +121,11 @@ module _ (s : List ℕ) (q e : ℕ) (m : Sibling) (t : Tells s q e m) where
 
   pub more_less : q < e → e - m.next < e - q
   more_less h = omega (arith, t.later, t.inside)
+
+-- a place is one, or there is none
+module _ (k : Option ℕ) (p : ℕ) where
+  pub none_some : k ≡ None → k ≡ Some p → ⊥
+  none_some a b = let z : ◌≡◌ {A = ℕ} 0 1 = cc in omega arith
+
+  pub some_same : (x : ℕ) → k ≡ Some p → k ≡ Some x → p ≡ x
+  some_same x a b = cc

@@ -1,8 +1,9 @@
 -- The pass as a whole: what it keeps for each of the six names and for the BODYs from turn to turn.
-use Prim.Native.Nat.{ℕ, ◌+◌, ◌≤◌, ◌<◌}
+use Prim.Native.Nat.{ℕ, ◌≤◌, ◌<◌}
 use mathlib.Core.Path.{◌≡◌, refl}
 use mathlib.Core.Bool.{Bool, true, false}
 use mathlib.Core.List.{List}
+use Rattle.std.specs.Prelude.{None}
 use lib.Dec.{eqb}
 use native.Mathlib.Omega.{arith}
 use Rattle.iff_name.specs.Name.{pick, kind_of}
@@ -22,7 +23,7 @@ pub record Gathering (s : List ℕ) (p e : ℕ) (whole : Bool) (q : ℕ) (g : Ga
 module _ (s : List ℕ) (p e : ℕ) (whole : Bool) where
   pub gathering_start : (g : Gathered) → g ≡ none_yet → Gathering s p e whole p g
   gathering_start g i =
-      let one : (name : ℕ) → Looking s p e whole p 0 name 0 = λ name. looking_start s p e whole name in
+      let one : (name : ℕ) → Looking s p e whole p 0 name None = λ name. looking_start s p e whole name in
       rw i (record {
         last = record { bmhd = one BMHD; cmap = one CMAP; grab = one GRAB; dest = one DEST; sprt = one SPRT; camg = one CAMG };
         bodies = counting_start s p e;
@@ -34,22 +35,21 @@ module _ (s : List ℕ) (p e : ℕ) (whole : Bool) where
   one_most false = omega arith
 
   pub gathering_more :
-      (q : ℕ) (m : Sibling) (g h : Gathered) → Tells s q e m → h ≡ taken_with m.name.code q g whole → 0 < p → p ≤ q →
+      (q : ℕ) (m : Sibling) (g h : Gathered) → Tells s q e m → h ≡ taken_with m.name.code q g whole →
       Gathering s p e whole q g →
       Gathering s p e whole m.next h
   unfolding kind_of
-  gathering_more q m g h t i a b w =
-      let l : 0 < q = omega arith in
+  gathering_more q m g h t i w =
       rw i (record {
         last = record {
-          bmhd = looking_more s p e whole q m t l BMHD refl refl refl g.bodies g.bmhd w.last.bmhd;
-          cmap = looking_more s p e whole q m t l CMAP refl refl refl g.bodies g.cmap w.last.cmap;
-          grab = looking_more s p e whole q m t l GRAB refl refl refl g.bodies g.grab w.last.grab;
-          dest = looking_more s p e whole q m t l DEST refl refl refl g.bodies g.dest w.last.dest;
-          sprt = looking_more s p e whole q m t l SPRT refl refl refl g.bodies g.sprt w.last.sprt;
-          camg = looking_more s p e whole q m t l CAMG refl refl refl g.bodies g.camg w.last.camg;
+          bmhd = looking_more s p e whole q m t BMHD refl refl refl g.bodies g.bmhd w.last.bmhd;
+          cmap = looking_more s p e whole q m t CMAP refl refl refl g.bodies g.cmap w.last.cmap;
+          grab = looking_more s p e whole q m t GRAB refl refl refl g.bodies g.grab w.last.grab;
+          dest = looking_more s p e whole q m t DEST refl refl refl g.bodies g.dest w.last.dest;
+          sprt = looking_more s p e whole q m t SPRT refl refl refl g.bodies g.sprt w.last.sprt;
+          camg = looking_more s p e whole q m t CAMG refl refl refl g.bodies g.camg w.last.camg;
         };
-        bodies = counting_more s p e q m t l refl g.bodies g.body w.bodies;
+        bodies = counting_more s p e q m t refl g.bodies g.body w.bodies;
         few = omega (arith, one_most (eqb m.name.code BODY), t.later, w.few);
       })
 

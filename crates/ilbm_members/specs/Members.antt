@@ -1,6 +1,7 @@
 -- The members of a group in a sound file, as a loop over places meets them.
 use Rattle.std.specs.Prelude.{ℕ, ◌+◌, ◌≤◌, ◌<◌, ◌≡◌, List, ◌++◌, length, drop}
-use Rattle.std.proofs.Math.Option.{Option, some, none as nothing}
+use Rattle.std.specs.Prelude.{Option, Some, None}
+use Rattle.std.proofs.Math.Option.{Option as Maybe, some, none as nothing}
 use Rattle.std.proofs.Math.Seq.{slice}
 use Rattle.iff_chunk.specs.Chunks.{Chunks, none, leaf, group, bytes, word}
 use Rattle.iff_grammar.specs.Read.{Regular}
@@ -26,10 +27,10 @@ pub record Stands (s : List ℕ) (x : Located) : Type 0 where
   pub inside : x.place + 8 + length x.content ≤ length s
   pub short : length s ≤ 16777216
 
--- a number is the place of a chunk, or 0 for none
-abbrev pub Marks : List ℕ → ℕ → Option Located → Type 0
-Marks s k nothing = k ≡ 0
-Marks s k (some x) = (k ≡ x.place) × (0 < k) × Stands s x
+-- a number is the place of a chunk, and none stands for none
+abbrev pub Marks : List ℕ → Option ℕ → Maybe Located → Type 0
+Marks s k nothing = k ≡ None
+Marks s k (some x) = (k ≡ Some x.place) × Stands s x
 
 -- What is read at p of the first of some chunks: its name, its data, and where the chunks after it stand.
 abbrev pub Front : List ℕ → ℕ → ℕ → ℕ → ℕ → Chunks → List ℕ → Type 0

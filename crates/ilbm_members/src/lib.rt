@@ -1,7 +1,7 @@
 // The members of one group of a sound file, by a loop over their places.
 #![tactic(auto)]
 
-ghost use Rattle.std.specs.Prelude.{◌≡◌, ◌<◌, ◌≤◌};
+ghost use Rattle.std.specs.Prelude.{◌≡◌, ◌<◌, ◌≤◌, Some};
 ghost use Rattle.iff_name.specs.Name.{pick};
 ghost use Rattle.ilbm_members.specs.Members.{Row, Tells};
 ghost use Rattle.ilbm_members.specs.Gathers.{none_yet, taken_with, Gathers};
@@ -29,17 +29,17 @@ pub fn sibling_at(s: &[u8], p: usize, e: usize) -> Sibling
     }
 }
 
-// Where the chunks stand that count among the members of a group, 0 for none: the last of each property's name, and the first BODY;
-// and how many BODYs there are.
+// Where the chunks stand that count among the members of a group, if there are any: the last of each property's name, and the first
+// BODY; and how many BODYs there are.
 #[derive(Clone, Copy)]
 pub struct Gathered {
-    pub bmhd: usize,
-    pub cmap: usize,
-    pub grab: usize,
-    pub dest: usize,
-    pub sprt: usize,
-    pub camg: usize,
-    pub body: usize,
+    pub bmhd: Option<usize>,
+    pub cmap: Option<usize>,
+    pub grab: Option<usize>,
+    pub dest: Option<usize>,
+    pub sprt: Option<usize>,
+    pub camg: Option<usize>,
+    pub body: Option<usize>,
     pub bodies: usize,
 }
 
@@ -47,21 +47,21 @@ fn none_yet() -> Gathered
     ensures { result ≡ none_yet }
 {
     Gathered {
-        bmhd: 0,
-        cmap: 0,
-        grab: 0,
-        dest: 0,
-        sprt: 0,
-        camg: 0,
-        body: 0,
+        bmhd: None,
+        cmap: None,
+        grab: None,
+        dest: None,
+        sprt: None,
+        camg: None,
+        body: None,
         bodies: 0,
     }
 }
 
-fn newer(hit: bool, place: usize, old: usize) -> usize
-    ensures { result ≡ pick hit place old }
+fn newer(hit: bool, place: usize, old: Option<usize>) -> Option<usize>
+    ensures { result ≡ pick hit (Some place) old }
 {
-    if hit { place } else { old }
+    if hit { Some(place) } else { old }
 }
 
 fn one_if(hit: bool) -> usize
@@ -77,14 +77,14 @@ fn taken(n: Name, q: usize, g: Gathered, whole: bool) -> Gathered
 {
     let first = g.bodies == 0;
     let open = whole | first;
-    let body = n.code == BODY.code;
+    let body = n == BODY;
     Gathered {
-        bmhd: newer(open & (n.code == BMHD.code), q, g.bmhd),
-        cmap: newer(open & (n.code == CMAP.code), q, g.cmap),
-        grab: newer(open & (n.code == GRAB.code), q, g.grab),
-        dest: newer(open & (n.code == DEST.code), q, g.dest),
-        sprt: newer(open & (n.code == SPRT.code), q, g.sprt),
-        camg: newer(open & (n.code == CAMG.code), q, g.camg),
+        bmhd: newer(open & (n == BMHD), q, g.bmhd),
+        cmap: newer(open & (n == CMAP), q, g.cmap),
+        grab: newer(open & (n == GRAB), q, g.grab),
+        dest: newer(open & (n == DEST), q, g.dest),
+        sprt: newer(open & (n == SPRT), q, g.sprt),
+        camg: newer(open & (n == CAMG), q, g.camg),
         body: newer(first & body, q, g.body),
         bodies: g.bodies + one_if(body),
     }
@@ -92,7 +92,7 @@ fn taken(n: Name, q: usize, g: Gathered, whole: bool) -> Gathered
 
 // What the members from p to e give, in one pass: the properties of a FORM end at its first BODY, those of a PROP don't.
 pub fn gather(s: &[u8], p: usize, e: usize, whole: bool) -> Gathered
-    requires { (Row s.now p e) × (0 < p) }
+    requires { Row s.now p e }
     ensures { Gathers s.now p e whole result }
 {
     let mut q = p;

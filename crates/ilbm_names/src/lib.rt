@@ -26,12 +26,12 @@ pub const BODY: Name = Name { code: 0x424F4459 };
 pub fn is_picture(n: Name, t: Name) -> bool
     ensures { result ≡ is_picture n.code t.code }
 {
-    (n.code == Name::FORM.code) & (t.code == ILBM.code)
+    (n == Name::FORM) & (t == ILBM)
 }
 
 // Whether a group of this name and type is a PROP that pictures share.
 pub fn is_shared_prop(n: Name, t: Name) -> bool
     ensures { result ≡ is_shared_prop n.code t.code }
 {
-    (n.code == Name::PROP.code) & (t.code == ILBM.code)
+    (n == Name::PROP) & (t == ILBM)
 }

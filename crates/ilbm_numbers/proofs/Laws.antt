@@ -5,16 +5,15 @@ use mathlib.Core.List.{List}
 use mathlib.Core.Option.{some}
 use Rattle.ilbm_spec.specs.Contents.{Located, Property, own, shared, absent}
 use Rattle.ilbm_spec.specs.Palette.{extent_of, extent_from}
-use Rattle.ilbm_content.specs.declared.Part.{Part}
-use Rattle.ilbm_content.specs.declared.Part.TheVariants.{Nothing, Between}
 use Rattle.ilbm_content.specs.declared.Held.{Held}
 use Rattle.ilbm_content.specs.Held.{Shows, HeldIs}
 use Rattle.ilbm_numbers.specs.Parts.{from_of, to_of}
+use Rattle.std.specs.Prelude.{Some, None, Option}
 
-pub part_extent : (s : List ℕ) (p : Part) (x : Located) → Shows s p (some x) →
+pub part_extent : (s : List ℕ) (p : Option (ℕ × ℕ)) (x : Located) → Shows s p (some x) →
     (from_of p ≡ (extent_of x).from) × (to_of p ≡ (extent_of x).to)
-part_extent s Nothing x w = absurd w
-part_extent s (Between a b) x w = (w.3, sym w.1 ∙ rw w.3)
+part_extent s None x w = absurd w
+part_extent s (Some (a, b)) x w = (w.3, sym w.1 ∙ rw w.3)
 
 pub held_extent : (s : List ℕ) (h : Held) (q : Property) → HeldIs s h q →
     (from_of h.part ≡ (extent_from q).from) × (to_of h.part ≡ (extent_from q).to)

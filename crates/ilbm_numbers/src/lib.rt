@@ -5,7 +5,6 @@ ghost use Rattle.std.specs.Prelude.{◌≡◌};
 ghost use Rattle.ilbm_spec.specs.Table.{origin_number, shared_place};
 ghost use Rattle.ilbm_numbers.specs.Parts.{from_of, to_of};
 
-use ilbm_content::Part;
 use ilbm_spec::Origin;
 
 pub fn origin_number(o: Origin) -> usize
@@ -28,20 +27,20 @@ pub fn shared_place(o: Origin) -> usize
     }
 }
 
-pub fn part_from(part: Part) -> usize
+pub fn part_from(part: Option<(usize, usize)>) -> usize
     ensures { result ≡ from_of part }
 {
     match part {
-        Part::Nothing => 0,
-        Part::Between(from, _) => from,
+        None => 0,
+        Some((from, _)) => from,
     }
 }
 
-pub fn part_to(part: Part) -> usize
+pub fn part_to(part: Option<(usize, usize)>) -> usize
     ensures { result ≡ to_of part }
 {
     match part {
-        Part::Nothing => 0,
-        Part::Between(_, to) => to,
+        None => 0,
+        Some((_, to)) => to,
     }
 }

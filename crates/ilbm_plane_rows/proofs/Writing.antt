@@ -1,13 +1,12 @@
 -- A turn of the loop that writes rows into a buffer: the rows before it stay, and the row that was read is the next one.
-use Prim.Native.Nat.{ℕ, zero, suc, ◌+◌, ◌-◌, ◌*◌, ◌^◌, ◌<◌, ◌≤◌}
+use Prim.Native.Nat.{ℕ, zero, suc, ◌+◌, ◌-◌, ◌*◌, ◌<◌, ◌≤◌}
 use mathlib.Core.Path.{◌≡◌, refl, sym, ap, ◌∙◌}
 use mathlib.Core.List.{List, [], ◌∷◌, ◌++◌, append_assoc, append-nil}
 use lib.ListN.{length, take, drop, length-drop, take-append-drop}
 use lib.Seq.{take-append-le, drop-append-le, drop_at, length-take-le}
-use mir.Syntax.{w64}
-use mir.Val.{Fits}
 use native.Mathlib.Numerals.{add-one}
 use native.Mathlib.Omega.{arith}
+use borrow.Rule.Slice.PartMut.{mid_of, put_mid}
 use Rattle.byterun_row.specs.ByteRun.{Row, filled, over, short, row_of, IsFull}
 use Rattle.ilbm_spec.specs.Rows.{Read, then_read, IsRead, row_read, rows_from}
 use Rattle.ilbm_spec.proofs.laws.Rows.{one_value, one_place}
@@ -40,7 +39,7 @@ rows_last n (suc m) k xs = let e : k + suc m ≡ suc k + m = omega arith in
     rw e (ap (λ (l : List (List ℕ)). take n (drop (k * n) xs) ∷ l) (rows_last n m (suc k) xs))
 
 -- the part of a buffer that is lent for a row has room for it
-pub part_long : (a n : ℕ) (xs : List ℕ) → a + n ≤ length xs → n ≤ length (take (length xs - a) (drop a xs))
+part_long : (a n : ℕ) (xs : List ℕ) → a + n ≤ length xs → n ≤ length (take (length xs - a) (drop a xs))
 part_long a n xs h =
     let e : length (take (length xs - a) (drop a xs)) ≡ length xs - a =
     length-take-le (length xs - a) (drop a xs) (rw length-drop (omega arith)) in
@@ -97,7 +96,7 @@ module _ (compression : ℕ) (body : List ℕ) (n rows at : ℕ) where
           go (over s) f = let z : ◌≡◌ {A = ℕ} 0 1 = cc in absurd (omega arith)
           go (short s) f = let z : ◌≡◌ {A = ℕ} 0 1 = cc in absurd (omega arith)
 
-      pub written_more :
+      written_more :
           (p : ℕ) (new tail : List ℕ) → k * n + n ≤ length buffer → n ≤ length new → row_of compression body q n ≡ filled (take n new) p →
           Written compression body n rows at (k + 1) p (take (k * n) buffer ++ (new ++ tail))
       written_more p new tail d l i = go (rows_from compression body n (rows - (k + 1)) p) refl next
@@ -123,6 +122,16 @@ module _ (compression : ℕ) (body : List ℕ) (n rows at : ℕ) where
               }
           go (refused f s) u g = let z : ◌≡◌ {A = ℕ} 0 1 = cc in absurd (omega arith)
 
+      -- a row that was written to the part of the buffer from its place on
+      pub written_put :
+          (p : ℕ) (new : List ℕ) → rows * n ≤ length buffer → length new ≡ length (mid_of (k * n) (length buffer - k * n) buffer) →
+          row_of compression body q n ≡ filled (take n new) p →
+          Written compression body n rows at (k + 1) p (put_mid (k * n) (length buffer - k * n) buffer new)
+      written_put p new l kept i =
+          let room : k * n + n ≤ length buffer = omega (arith, row_room k rows n h) in
+          let long = part_long (k * n) n buffer room in
+          written_more p new _ room (omega arith) i
+
     pub written_end : k ≤ rows → rows ≤ k → rows_from compression body n rows at ≡ found ((rows_in n rows 0 buffer), q)
     written_end a b =
         let none : ◌≡◌ {A = Read (List (List ℕ))} (found ([], q)) (found (w.left, w.end)) =
@@ -132,13 +141,3 @@ module _ (compression : ℕ) (body : List ℕ) (n rows at : ℕ) where
         let z : rows ≡ k = omega arith in
         let u : rows_from compression body n rows at ≡ found ((rows_in n k 0 buffer ++ []), q) = rw (x, y) at w.whole in
         u ∙ rw (z, append-nil (rows_in n k 0 buffer))
-
--- the place of row k
-module _ (k rows n len : ℕ) (h : k < rows) (l : rows * n ≤ len) where
-  pub from_fits : len < 2 ^ 64 → Fits w64 (k * n)
-  from_fits f = omega (arith, row_room k rows n h)
-
-  pub to_inside : k * n + n ≤ len
-  to_inside = omega (arith, row_room k rows n h)
-
-pub ruleset writing = (written_start, from_fits, to_inside, written_end)

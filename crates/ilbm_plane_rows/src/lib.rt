@@ -7,10 +7,10 @@ ghost use Rattle.ilbm_spec.specs.Rows.{row_length, rows_in_line, IsRead, rows_fr
 ghost use Rattle.ilbm_spread.specs.Spread.{IsSpread};
 ghost use Rattle.ilbm_gather.specs.Buffer.{rows_in};
 
-use byterun_row::{RowAnswer, judge_row};
+use byterun_row::judge_row;
 use byterun_unpack::unpack_into;
+use iff_refusal::Refusal;
 use ilbm_gather::gather;
-use ilbm_spec::LineAnswer;
 use ilbm_spread::spread_table;
 
 // The bytes of a plane row.
@@ -30,27 +30,21 @@ pub fn row_count(planes: usize, masking: u8) -> usize
 }
 
 // Steps from row to row, with no byte written.
-pub fn judge_rows(body: &[u8], at: usize, n: usize, rows: usize, compression: u8) -> LineAnswer
+#[tactic(auto, using(crate::proofs::Judging::judging))]
+pub fn judge_rows(
+    body: &[u8],
+    at: usize,
+    n: usize,
+    rows: usize,
+    compression: u8,
+) -> Result<usize, Refusal>
     ensures { result ≡ line_answer (rows_from compression body.now n rows at) }
 {
     let mut q = at;
-    let mut k = 0;
-    while k < rows {
-        let answer = judge_row(body, q, n, compression);
-        match answer {
-            RowAnswer::Full(next) => {
-                q = next;
-                k = k + 1;
-            }
-            RowAnswer::Oversteps(place) => {
-                return LineAnswer::Refused { number: 27, place };
-            }
-            RowAnswer::Ends(place) => {
-                return LineAnswer::Refused { number: 26, place };
-            }
-        }
+    for _ in 0..rows {
+        q = judge_row(body, q, n, compression)?;
     }
-    LineAnswer::Next(q)
+    Ok(q)
 }
 
 // Writes rows that are known to be sound into the buffer, one after the other, and returns the place after them.
@@ -67,11 +61,9 @@ pub fn write_rows(
     ensures { rows_from compression body.now n rows at ≡ found ((rows_in n rows 0 buffer.new), result) }
 {
     let mut q = at;
-    let mut k = 0;
-    while k < rows {
+    for k in 0..rows {
         let from = k * n;
         q = unpack_into(body, q, compression, n, &mut buffer[from..]);
-        k = k + 1;
     }
     q
 }

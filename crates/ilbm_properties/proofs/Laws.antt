@@ -3,41 +3,40 @@ use Prim.Native.Nat.{ℕ, ◌+◌, ◌-◌, ◌≤◌}
 use mathlib.Core.Path.{◌≡◌, refl, sym, ap, ◌∙◌}
 use mathlib.Core.Bool.{Bool, true, false, not}
 use mathlib.Core.List.{List, []}
-use lib.Dec.{eqb, ltb}
+use lib.Dec.{eqb}
 use lib.ListN.{length, take, drop}
 use lib.IntN.{pos}
 use borrow.Author.Tests.{eqb-true}
 use native.Mathlib.Omega.{arith}
-use Rattle.iff_name.specs.Name.{either, pick}
+use Rattle.iff_name.specs.Name.{either}
 use Rattle.iff_chunk.specs.Chunks.{word}
 use Rattle.ilbm_spec.specs.declared.BitmapHeader.{BitmapHeader}
 use Rattle.ilbm_spec.specs.declared.HotSpot.{HotSpot}
 use Rattle.ilbm_spec.specs.declared.Destination.{Destination}
 use Rattle.ilbm_spec.specs.declared.Picture.{Picture}
-use Rattle.ilbm_spec.specs.declared.PictureAnswer.TheVariants.{Shown, Refused}
-use Rattle.ilbm_spec.specs.Contents.{Property, own, shared, absent, Content}
-use Rattle.ilbm_spec.specs.Pictures.{u16, header_in, hot_spot_in, destination_in, data_of, origin_of, counts, size_not, size_not_triples}
-use Rattle.ilbm_spec.specs.Pictures.{wrong_size, header_refusal, picture_refusal, picture_from, view_of, picture_of}
+use Rattle.ilbm_spec.specs.Contents.{Property, own, shared, absent}
+use Rattle.ilbm_spec.specs.Pictures.{u16, hot_spot_in, destination_in, data_of, counts, size_not, size_not_triples}
+use Rattle.ilbm_spec.specs.Pictures.{wrong_size, picture_from, view_of, picture_of}
 use Rattle.ilbm_spec.proofs.laws.Pictures.{sizes_right}
 use Rattle.ilbm_content.proofs.Laws.{origin_is}
-use Rattle.ilbm_content.specs.declared.Part.TheVariants.{Nothing, Between}
 use Rattle.ilbm_content.specs.declared.Held.{Held}
 use Rattle.ilbm_content.specs.declared.Contents.{Contents}
 use Rattle.ilbm_content.specs.Held.{HeldIs}
-use Rattle.ilbm_find.specs.declared.View.{View}
-use Rattle.ilbm_find.specs.declared.View.TheVariants.{Seen, Refused as View-refused}
 use Rattle.ilbm_find.specs.Seen.{ViewIs, Judged}
 use Rattle.ilbm_refusals.proofs.Laws.{held_some, held_none}
 use Rattle.ilbm_refusals.proofs.RefusalLaws.{held_data, data_taken}
 use Rattle.iff_tree.specs.Judge.{refused}
 use Rattle.ilbm_properties.specs.Fields.{OfSize, GrabIs, DestinationIs, WordIs, LongIs, PictureIs}
+use Rattle.iff_refusal.specs.declared.Refusal.{Refusal}
+use Rattle.iff_refusal.specs.Numbers.{Answer}
+use Rattle.std.specs.Prelude.{Ok, Err, Some, None}
 
 not-false : (b : Bool) → not b ≡ false → b ≡ true
 not-false true e = refl
 not-false false e = sym e
 
 -- a part of the right size
-module _ (s : List ℕ) (h : Held) (n a b : ℕ) (o : OfSize s h n) (i : h.part ≡ Between a b) where
+module _ (s : List ℕ) (h : Held) (n a b : ℕ) (o : OfSize s h n) (i : h.part ≡ Some (a, b)) where
   pub size_order : a ≤ b
   size_order = omega (arith, (held_some s h o.0 a b o.1 i).sized)
 
@@ -58,7 +57,7 @@ module _ (s : List ℕ) (h : Held) (n a b : ℕ) (o : OfSize s h n) (i : h.part 
 pub ruleset size_laws = (size_order, size_inside, size_room, size_room_0)
 
 -- what is read of it
-module _ (s : List ℕ) (h : Held) (a b : ℕ) (i : h.part ≡ Between a b) where
+module _ (s : List ℕ) (h : Held) (a b : ℕ) (i : h.part ≡ Some (a, b)) where
   pub grab_some : (r : HotSpot) → r ≡ hot_spot_in (take (b - a) (drop a s)) → GrabIs s h r
   grab_some r e = record { at = λ q k. e ∙ ap hot_spot_in (data_taken s h q a b k i) }
 
@@ -76,7 +75,7 @@ no_data (own d) e = absurd (let z : ◌≡◌ {A = ℕ} 0 1 = cc in omega arith)
 no_data (shared p d) e = absurd (let z : ◌≡◌ {A = ℕ} 0 1 = cc in omega arith)
 no_data absent e = refl
 
-module _ (s : List ℕ) (h : Held) (i : h.part ≡ Nothing) where
+module _ (s : List ℕ) (h : Held) (i : h.part ≡ None) where
   nothing_in : (q : Property) → HeldIs s h q → data_of q ≡ []
   nothing_in q k = no_data q (held_none s h q k i)
 
@@ -169,9 +168,9 @@ picture_answered s c b g d w m G D W M =
     }
 
 -- from the view to the answers
-module _ (s : List ℕ) (i : ℕ) (v : View) (w : ViewIs s v (view_of s i)) where
-  pub picture_seen : (c : Contents) (b : BitmapHeader) (r : Picture) → v ≡ Seen c b → PictureIs s c b r → Shown r ≡ picture_of s i
-  picture_seen c b r j k = let x : ViewIs s (Seen c b) (view_of s i) = rw j at w in rw x.1 (ap Shown (k.at x.0 x.2))
+module _ (s : List ℕ) (i : ℕ) (v : Answer (Contents × BitmapHeader)) (w : ViewIs s v (view_of s i)) where
+  pub picture_seen : (c : Contents) (b : BitmapHeader) (r : Picture) → v ≡ Ok (c, b) → PictureIs s c b r → Ok r ≡ picture_of s i
+  picture_seen c b r j k = let x : ViewIs s (Ok (c, b)) (view_of s i) = rw j at w in rw x.1 (ap Ok (k.at x.0 x.2))
 
-  pub picture_refused : (k p : ℕ) → v ≡ View-refused k p → Refused k p ≡ picture_of s i
-  picture_refused k p j = let x : view_of s i ≡ refused k p = rw j at w in rw x
+  pub picture_refused : (r : Refusal) → v ≡ Err r → Err r ≡ picture_of s i
+  picture_refused r j = let x : view_of s i ≡ refused r.reason r.place = rw j at w in rw x

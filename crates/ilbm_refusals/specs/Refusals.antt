@@ -1,8 +1,9 @@
 -- The refusals of a picture, told by the parts of the file that hold its content.
-use Rattle.std.specs.Prelude.{ℕ, ◌≡◌, Bool, List}
+use Rattle.std.specs.Prelude.{ℕ, ◌≡◌, Bool, List, Result, Ok, Err}
 use Rattle.ilbm_spec.specs.Contents.{Property, Content}
 use Rattle.ilbm_spec.specs.Pictures.{size_not, size_not_triples, wrong_size, picture_refusal, data_of, header_in}
-use Rattle.ilbm_refusals.specs.declared.Judgement.{Judgement}
+use Rattle.iff_refusal.specs.declared.Reason.{Reason}
+use Rattle.ilbm_spec.specs.declared.BitmapHeader.{BitmapHeader}
 use Rattle.ilbm_content.specs.declared.Held.{Held}
 use Rattle.ilbm_content.specs.declared.Contents.{Contents}
 use Rattle.ilbm_content.specs.Held.{HeldIs, ContentsAre}
@@ -24,7 +25,10 @@ pub record TriplesIs (h : Held) (b : Bool) : Type 0 where
 pub record SizesAre (s : List ℕ) (c : Contents) (b : Bool) : Type 0 where
   pub at : (x : Content) → ContentsAre s c x → b ≡ wrong_size x
 
--- the number is that of the refusal, or 0 with the header that counts
-pub record JudgementIs (s : List ℕ) (c : Contents) (r : Judgement) : Type 0 where
-  pub number : (x : Content) → ContentsAre s c x → r.number ≡ picture_refusal x
-  pub header : (x : Content) → ContentsAre s c x → r.number ≡ 0 → r.header ≡ header_in (data_of x.bmhd)
+-- the header that counts, behind the refusals of a picture
+abbrev pub judgement : Result (Unit {0}) Reason → BitmapHeader → Result BitmapHeader Reason
+judgement (Ok u) b = Ok b
+judgement (Err k) b = Err k
+
+pub record JudgementIs (s : List ℕ) (c : Contents) (r : Result BitmapHeader Reason) : Type 0 where
+  pub at : (x : Content) → ContentsAre s c x → r ≡ judgement (picture_refusal x) (header_in (data_of x.bmhd))

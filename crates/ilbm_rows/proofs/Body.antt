@@ -9,17 +9,16 @@ use native.Mathlib.Omega.{arith}
 use Rattle.iff_tree.specs.Judge.{found}
 use Rattle.iff_grammar.proofs.laws.Words.{slice_take}
 use Rattle.ilbm_spec.specs.declared.BitmapHeader.{BitmapHeader}
-use Rattle.ilbm_spec.specs.declared.LineAnswer.{LineAnswer}
-use Rattle.ilbm_spec.specs.declared.FrameAnswer.{FrameAnswer}
 use Rattle.ilbm_spec.specs.Contents.{Located, Content}
 use Rattle.ilbm_spec.specs.Rows.{Read, line_in_body, frame_in_body, line_read, frame_read, line_answer, frame_answer, bytes_after}
 use Rattle.ilbm_spec.proofs.laws.Pictures.{line_fields, frame_fields}
 use Rattle.ilbm_members.specs.Gathers.{first_of}
-use Rattle.ilbm_content.specs.declared.Part.TheVariants.{Between}
 use Rattle.ilbm_content.specs.declared.Contents.{Contents}
 use Rattle.ilbm_content.specs.Held.{Shows}
 use Rattle.ilbm_find.specs.Seen.{Shown, Judged}
 use Rattle.ilbm_rows.specs.Lines.{LineDone, FrameDone}
+use Rattle.iff_refusal.specs.Numbers.{Answer}
+use Rattle.std.specs.Prelude.{Some}
 
 -- the BODY that lies in a part
 pub record FirstBody (s : List ℕ) (a b : ℕ) (bodies : List Located) : Type 0 where
@@ -30,14 +29,14 @@ pub record FirstBody (s : List ℕ) (a b : ℕ) (bodies : List Located) : Type 0
   pub order : a ≤ b
   pub inside : b ≤ length s
 
-first_body : (s : List ℕ) (a b : ℕ) (bodies : List Located) → Shows s (Between a b) (first_of bodies) → FirstBody s a b bodies
+first_body : (s : List ℕ) (a b : ℕ) (bodies : List Located) → Shows s (Some (a, b)) (first_of bodies) → FirstBody s a b bodies
 first_body s a b [] w = absurd w
 first_body s a b (x ∷ xs) w =
     let j : a + (b - a) ≡ b = omega (arith, w.1) in
     let e : take (b - a) (drop a s) ≡ x.content = sym (slice_take s a (b - a)) ∙ (ap (λ (y : ℕ). slice a y s) j ∙ w.0) in
     record { first = x; others = xs; is = refl; is_data = sym e; order = omega (arith, w.1); inside = w.2 }
 
-module _ (s : List ℕ) (c : Contents) (h : BitmapHeader) (a b : ℕ) (i : c.body ≡ Between a b) where
+module _ (s : List ℕ) (c : Contents) (h : BitmapHeader) (a b : ℕ) (i : c.body ≡ Some (a, b)) where
   pub body_of : (x : Content) → Shown s c h x → FirstBody s a b x.bodies
   body_of x k = first_body s a b x.bodies (rw i at k.parts.body)
 
@@ -57,7 +56,7 @@ module _ (s : List ℕ) (c : Contents) (h : BitmapHeader) (a b : ℕ) (i : c.bod
         let b = body_of x k in
         rw (b.is, b.is_data, k.header, line_fields x k.sound b.first b.others b.is)
 
-    pub line_done : (r : LineAnswer) (new : List ℕ) → r ≡ line_answer line → new ≡ bytes_after line old → LineDone s c h start old r new
+    pub line_done : (r : Answer ℕ) (new : List ℕ) → r ≡ line_answer line → new ≡ bytes_after line old → LineDone s c h start old r new
     line_done r new e w = record { answer = λ x k. rw (line_at x k) e; row = λ x k. rw (line_at x k) w }
 
   -- the frame
@@ -70,5 +69,5 @@ module _ (s : List ℕ) (c : Contents) (h : BitmapHeader) (a b : ℕ) (i : c.bod
         let b = body_of x k in
         rw (b.is, b.is_data, k.header, frame_fields x k.sound b.first b.others b.is)
 
-    pub frame_done : (r : FrameAnswer) (new : List ℕ) → r ≡ frame_answer frame → new ≡ bytes_after frame old → FrameDone s c h old r new
+    pub frame_done : (r : Answer ℕ) (new : List ℕ) → r ≡ frame_answer frame → new ≡ bytes_after frame old → FrameDone s c h old r new
     frame_done r new e w = record { answer = λ x k. rw (frame_at x k) e; frame = λ x k. rw (frame_at x k) w }

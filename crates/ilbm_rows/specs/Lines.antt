@@ -1,20 +1,19 @@
 -- What a scan line and a frame of a picture tell, by the parts of the file that hold its content.
 use Rattle.std.specs.Prelude.{ℕ, ◌≡◌, List, length}
 use Rattle.ilbm_spec.specs.declared.BitmapHeader.{BitmapHeader}
-use Rattle.ilbm_spec.specs.declared.LineAnswer.{LineAnswer}
-use Rattle.ilbm_spec.specs.declared.FrameAnswer.{FrameAnswer}
 use Rattle.ilbm_spec.specs.Contents.{Content}
 use Rattle.ilbm_spec.specs.Rows.{line_read, frame_read, line_answer, frame_answer, bytes_after}
 use Rattle.ilbm_content.specs.declared.Contents.{Contents}
 use Rattle.iff_tree.specs.Judge.{found}
 use Rattle.ilbm_find.specs.Seen.{Shown}
+use Rattle.iff_refusal.specs.Numbers.{Answer}
 
 -- the answer, and what stands in the row afterwards
-pub record LineDone (s : List ℕ) (c : Contents) (h : BitmapHeader) (start : ℕ) (old : List ℕ) (r : LineAnswer) (new : List ℕ) : Type 0 where
+pub record LineDone (s : List ℕ) (c : Contents) (h : BitmapHeader) (start : ℕ) (old : List ℕ) (r : Answer ℕ) (new : List ℕ) : Type 0 where
   pub answer : (x : Content) → Shown s c h x → r ≡ line_answer (line_read (found x) start (length old))
   pub row : (x : Content) → Shown s c h x → new ≡ bytes_after (line_read (found x) start (length old)) old
 
 -- the answer, and what stands in the frame afterwards
-pub record FrameDone (s : List ℕ) (c : Contents) (h : BitmapHeader) (old : List ℕ) (r : FrameAnswer) (new : List ℕ) : Type 0 where
+pub record FrameDone (s : List ℕ) (c : Contents) (h : BitmapHeader) (old : List ℕ) (r : Answer ℕ) (new : List ℕ) : Type 0 where
   pub answer : (x : Content) → Shown s c h x → r ≡ frame_answer (frame_read (found x) (length old))
   pub frame : (x : Content) → Shown s c h x → new ≡ bytes_after (frame_read (found x) (length old)) old

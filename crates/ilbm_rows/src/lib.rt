@@ -6,10 +6,11 @@ ghost use Rattle.ilbm_spec.specs.Rows.{line_of, frame_of, line_answer, frame_ans
 ghost use Rattle.ilbm_find.specs.Seen.{Judged};
 ghost use Rattle.ilbm_rows.specs.Lines.{LineDone, FrameDone};
 
+use iff_refusal::{Reason, Refusal};
 use ilbm_body_rows::{frame_in_body, line_in_body};
-use ilbm_content::{Contents, Part};
-use ilbm_find::{View, view_picture};
-use ilbm_spec::{BitmapHeader, FrameAnswer, LineAnswer};
+use ilbm_content::Contents;
+use ilbm_find::view_picture;
+use ilbm_spec::BitmapHeader;
 
 // A scan line of a picture that is not refused.
 fn picture_line(
@@ -18,17 +19,14 @@ fn picture_line(
     header: BitmapHeader,
     start: usize,
     row: &mut [u8],
-) -> LineAnswer
+) -> Result<usize, Refusal>
     requires { Judged s.now c header }
     ensures { LineDone s.now c header start row.old result row.new }
 {
     let body = c.body;
     match body {
-        Part::Nothing => LineAnswer::Refused {
-            number: 25,
-            place: 0,
-        },
-        Part::Between(a, b) => line_in_body(
+        None => Err(Reason::NoBody.at(0)),
+        Some((a, b)) => line_in_body(
             &s[a..b],
             header.w,
             header.planes,
@@ -41,29 +39,28 @@ fn picture_line(
 }
 
 // The colour numbers of a scan line of picture i, from a place of its BODY, and the next place; a refusal leaves the row as it was.
-pub fn scan_line(s: &[u8], i: usize, start: usize, row: &mut [u8]) -> LineAnswer
+pub fn scan_line(s: &[u8], i: usize, start: usize, row: &mut [u8]) -> Result<usize, Refusal>
     ensures answer { result ≡ line_answer (line_of s.now i start (length row.old)) }
     ensures bytes { row.new ≡ bytes_after (line_of s.now i start (length row.old)) row.old }
 {
-    let v = view_picture(s, i);
-    match v {
-        View::Seen(c, header) => picture_line(s, c, header, start, row),
-        View::Refused(number, place) => LineAnswer::Refused { number, place },
-    }
+    let (c, header) = view_picture(s, i)?;
+    picture_line(s, c, header, start, row)
 }
 
 // The frame of a picture that is not refused.
-fn picture_frame(s: &[u8], c: Contents, header: BitmapHeader, frame: &mut [u8]) -> FrameAnswer
+fn picture_frame(
+    s: &[u8],
+    c: Contents,
+    header: BitmapHeader,
+    frame: &mut [u8],
+) -> Result<usize, Refusal>
     requires { Judged s.now c header }
     ensures { FrameDone s.now c header frame.old result frame.new }
 {
     let body = c.body;
     match body {
-        Part::Nothing => FrameAnswer::Refused {
-            number: 25,
-            place: 0,
-        },
-        Part::Between(from, to) => frame_in_body(
+        None => Err(Reason::NoBody.at(0)),
+        Some((from, to)) => frame_in_body(
             &s[from..to],
             header.w,
             header.h,
@@ -76,13 +73,10 @@ fn picture_frame(s: &[u8], c: Contents, header: BitmapHeader, frame: &mut [u8]) 
 }
 
 // The colour numbers of all scan lines of picture i, and how many bytes of the BODY are left; a refusal leaves the frame as it was.
-pub fn whole_frame(s: &[u8], i: usize, frame: &mut [u8]) -> FrameAnswer
+pub fn whole_frame(s: &[u8], i: usize, frame: &mut [u8]) -> Result<usize, Refusal>
     ensures answer { result ≡ frame_answer (frame_of s.now i (length frame.old)) }
     ensures bytes { frame.new ≡ bytes_after (frame_of s.now i (length frame.old)) frame.old }
 {
-    let v = view_picture(s, i);
-    match v {
-        View::Seen(c, header) => picture_frame(s, c, header, frame),
-        View::Refused(number, place) => FrameAnswer::Refused { number, place },
-    }
+    let (c, header) = view_picture(s, i)?;
+    picture_frame(s, c, header, frame)
 }

@@ -9,17 +9,19 @@ use mir.Syntax.{w64}
 use mir.Val.{Fits}
 use native.Mathlib.Nat.{zero-mul, suc-mul, add-mul, one-mul, mul_comm, mul-le-mul_left}
 use native.Mathlib.Omega.{arith}
+use borrow.Rule.Slice.PartMut.{mid_of, put_mid}
 use Rattle.ilbm_spec.specs.Rows.{Read, then_read, IsRead, row_read, rows_from, Pixels, line_with, lines_with, line_answer, bytes_after}
 use Rattle.ilbm_spec.proofs.laws.Rows.{one_value, one_place}
 use Rattle.byterun_row.specs.ByteRun.{row_of}
 use Rattle.ilbm_gather.proofs.Colours.{row_room}
-use Rattle.ilbm_spec.specs.declared.LineAnswer.{LineAnswer}
-use Rattle.ilbm_spec.specs.declared.LineAnswer.TheVariants.{Next, Refused}
 use Rattle.iff_tree.specs.Judge.{found, refused}
-use Rattle.ilbm_plane_rows.proofs.Judging.{onward, answered_onward, answered_next, answered_read, answered_refusal}
+use Rattle.ilbm_plane_rows.proofs.Judging.{onward, answered_onward, answered_next, answered_refusal}
+use Rattle.iff_refusal.specs.declared.Refusal.{Refusal}
+use Rattle.iff_refusal.specs.Numbers.{Answer}
+use Rattle.std.specs.Prelude.{Ok, Err}
 
 -- the part of a frame that is lent for a line
-pub part_long : (a n : ℕ) (xs : List ℕ) → a + n ≤ length xs → length (take (a + n - a) (drop a xs)) ≡ n
+part_long : (a n : ℕ) (xs : List ℕ) → a + n ≤ length xs → length (take (a + n - a) (drop a xs)) ≡ n
 part_long a n xs h = let e : a + n - a ≡ n = omega arith in rw e (length-take-le n (drop a xs) (rw length-drop (omega arith)))
 
 -- the lines that are read, behind these pixels
@@ -77,25 +79,18 @@ module _ (pixels : Pixels) (compression n rows : ℕ) (body : List ℕ) where
       go ih (refused k p) = refl
 
   -- what was judged of a frame's rows
-  module _ (h k : ℕ) (e : k ≡ n) (r : LineAnswer) (j : r ≡ line_answer (rows_from compression body k (h * rows) 0)) where
+  module _ (h k t : ℕ) (r : Answer ℕ) (j : r ≡ line_answer (rows_from compression body k t 0)) (e : k ≡ n) (l : t ≡ h * rows) where
     pub frame_answered : r ≡ line_answer (lines_with pixels compression n rows body h 0)
-    frame_answered = rw e at j ∙ lines_answered h 0
+    frame_answered = (rw (e, l) at j) ∙ lines_answered h 0
 
-    pub frame_judged : (q : ℕ) → r ≡ Next q → IsRead (lines_with pixels compression n rows body h 0)
+    pub frame_judged : (q : ℕ) → r ≡ Ok q → IsRead (lines_with pixels compression n rows body h 0)
     frame_judged q d = answered_next (lines_with pixels compression n rows body h 0) r frame_answered q d
 
-    module _ (m : ℕ) (c : rows ≡ m) (old : List ℕ) where
-      pub frame_read_lem :
-          (new : List ℕ) (q p : ℕ) → r ≡ Next q → lines_with pixels compression n rows body h 0 ≡ found (new, p) →
-          (Next q ≡ line_answer (lines_with pixels compression n m body h 0)) ×
-          (new ≡ bytes_after (lines_with pixels compression n m body h 0) old)
-      frame_read_lem new q p d i = rw (← c) (answered_read (lines_with pixels compression n rows body h 0) r frame_answered old new q p d i)
+    pub frame_told : (a : Answer ℕ) → r ≡ a → a ≡ line_answer (lines_with pixels compression n rows body h 0)
+    frame_told a d = sym d ∙ frame_answered
 
-      pub frame_refusal :
-          (k p : ℕ) → r ≡ Refused k p →
-          (Refused k p ≡ line_answer (lines_with pixels compression n m body h 0)) ×
-          (old ≡ bytes_after (lines_with pixels compression n m body h 0) old)
-      frame_refusal k p d = rw (← c) (answered_refusal (lines_with pixels compression n rows body h 0) r frame_answered old k p d)
+    pub frame_stands : (o : Refusal) → r ≡ Err o → (old : List ℕ) → old ≡ bytes_after (lines_with pixels compression n rows body h 0) old
+    frame_stands o d old = answered_refusal (lines_with pixels compression n rows body h 0) o old (sym frame_answered ∙ d)
 
   -- where lines are left, the first of them is read, and then the others
   lines_once :
@@ -162,7 +157,7 @@ module _ (pixels : Pixels) (compression n w rows : ℕ) (body : List ℕ) (h : �
           go (found (rs, s)) f = tt
           go (refused k p) f = let z : ◌≡◌ {A = ℕ} 0 1 = cc in absurd (omega arith)
 
-      pub drawn_more :
+      drawn_more :
           (p : ℕ) (new tail : List ℕ) → y * w + w ≤ length frame → length new ≡ w →
           line_with pixels compression n rows body q ≡ found (new, p) →
           Drawn pixels compression n w rows body h (y + 1) p (take (y * w) frame ++ (new ++ tail))
@@ -191,6 +186,15 @@ module _ (pixels : Pixels) (compression n w rows : ℕ) (body : List ℕ) (h : �
               }
           go (refused k s) u f = let z : ◌≡◌ {A = ℕ} 0 1 = cc in absurd (omega arith)
 
+      -- a line that was written to its part of the frame
+      pub drawn_put :
+          (p : ℕ) (new : List ℕ) → length frame ≡ w * h → length new ≡ length (mid_of (y * w) (y * w + w - y * w) frame) →
+          line_with pixels compression n rows body q ≡ found (new, p) →
+          Drawn pixels compression n w rows body h (y + 1) p (put_mid (y * w) (y * w + w - y * w) frame new)
+      drawn_put p new e kept i =
+          let room = line_inside y h w (length frame) l e in
+          drawn_more p new _ room (kept ∙ part_long (y * w) w frame room) i
+
     pub drawn_end : y ≤ h → h ≤ y → length frame ≡ w * h → lines_with pixels compression n rows body h 0 ≡ found (frame, q)
     drawn_end a b l =
         let none : ◌≡◌ {A = Read (List ℕ)} (found ([], q)) (found (d.left, d.end)) =
@@ -202,4 +206,4 @@ module _ (pixels : Pixels) (compression n w rows : ℕ) (body : List ℕ) (h : �
         let v : lines_with pixels compression n rows body h 0 ≡ found ((take (y * w) frame ++ []), q) = rw (x, z) at d.whole in
         v ∙ rw (append-nil (take (y * w) frame), take_all (y * w) frame u)
 
-pub ruleset drawing = (drawn_start, drawn_line, drawn_end, line_inside, line_from_fits, line_to_fits, frame_judged)
+pub ruleset drawing = (drawn_start, drawn_line, drawn_put, drawn_end, line_inside, line_from_fits, line_to_fits)

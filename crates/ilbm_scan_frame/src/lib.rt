@@ -6,8 +6,8 @@ ghost use Rattle.iff_tree.specs.Judge.{found};
 ghost use Rattle.ilbm_spread.specs.Spread.{IsSpread};
 ghost use Rattle.ilbm_spec.specs.Rows.{row_length, rows_in_line, IsRead, lines_by, line_answer, bytes_after};
 
+use iff_refusal::Refusal;
 use ilbm_plane_rows::{judge_rows, row_count, row_length, write_line_by};
-use ilbm_spec::LineAnswer;
 use ilbm_spread::spread_table;
 
 // Writes scan lines that are known to be sound, one after the other, and returns the place after them.
@@ -29,8 +29,7 @@ fn write_lines(
     ensures { lines_by compression w planes rows body.now h 0 ≡ found (frame.new, result) }
 {
     let mut q = 0;
-    let mut y = 0;
-    while y < h {
+    for y in 0..h {
         let from = y * w;
         let to = from + w;
         q = write_line_by(
@@ -44,7 +43,6 @@ fn write_lines(
             buffer,
             &mut frame[from..to],
         );
-        y = y + 1;
     }
     q
 }
@@ -104,7 +102,7 @@ pub fn scan_frame(
     masking: u8,
     compression: u8,
     frame: &mut [u8],
-) -> LineAnswer
+) -> Result<usize, Refusal>
     requires w_bound { (w ≤ 65535) × (h ≤ 65535) × (planes ≤ 8) }
     requires frame_len { length frame.old ≡ w * h }
     ensures is { result ≡ line_answer (lines_by compression w planes (rows_in_line planes masking) body.now h 0) }
@@ -112,12 +110,7 @@ pub fn scan_frame(
 {
     let n = row_length(w);
     let rows = row_count(planes, masking);
-    let judged = judge_rows(body, 0, n, h * rows, compression);
-    match judged {
-        LineAnswer::Next(end) => {
-            write_frame(body, w, h, planes, rows, compression, frame);
-            LineAnswer::Next(end)
-        }
-        LineAnswer::Refused { number, place } => LineAnswer::Refused { number, place },
-    }
+    let end = judge_rows(body, 0, n, h * rows, compression)?;
+    write_frame(body, w, h, planes, rows, compression, frame);
+    Ok(end)
 }

@@ -4,8 +4,8 @@
 ghost use Rattle.std.specs.Prelude.{◌≡◌, ◌+◌, ◌*◌, ◌≤◌, length};
 ghost use Rattle.ilbm_spec.specs.Rows.{row_length, rows_in_line, line_by, line_answer, bytes_after};
 
+use iff_refusal::Refusal;
 use ilbm_plane_rows::{judge_rows, row_count, row_length, write_line};
-use ilbm_spec::LineAnswer;
 
 // A scan line, by way of a buffer that has room for its plane rows.
 fn scan_row_in(
@@ -17,7 +17,7 @@ fn scan_row_in(
     compression: u8,
     buffer: &mut [u8],
     row: &mut [u8],
-) -> LineAnswer
+) -> Result<usize, Refusal>
     requires w_bound { (w ≤ 65535) × (planes ≤ 8) }
     requires w_in_bounds { (rows_in_line planes masking * row_length w ≤ length buffer.old) × (length row.old ≡ w) }
     ensures is { result ≡ line_answer (line_by compression w planes (rows_in_line planes masking) body.now at) }
@@ -25,14 +25,9 @@ fn scan_row_in(
 {
     let n = row_length(w);
     let rows = row_count(planes, masking);
-    let judged = judge_rows(body, at, n, rows, compression);
-    match judged {
-        LineAnswer::Next(next) => {
-            write_line(body, at, w, planes, rows, compression, buffer, row);
-            LineAnswer::Next(next)
-        }
-        LineAnswer::Refused { number, place } => LineAnswer::Refused { number, place },
-    }
+    let next = judge_rows(body, at, n, rows, compression)?;
+    write_line(body, at, w, planes, rows, compression, buffer, row);
+    Ok(next)
 }
 
 // A scan line from a place of the BODY. Most lines have room in a small buffer, which is sooner cleared.
@@ -44,7 +39,7 @@ pub fn scan_row(
     masking: u8,
     compression: u8,
     row: &mut [u8],
-) -> LineAnswer
+) -> Result<usize, Refusal>
     requires w_bound { (w ≤ 65535) × (planes ≤ 8) }
     requires row_len { length row.old ≡ w }
     ensures is { result ≡ line_answer (line_by compression w planes (rows_in_line planes masking) body.now at) }

@@ -1,7 +1,7 @@
 -- The mask row is the first row of what lies behind those of the planes. Of the pixels before x each shows or not by its colour; one turn
 -- of the loop adds the next. The masking tells which of the three shapes it is.
 use Prim.Native.Nat.{ℕ, ◌+◌, ◌-◌, ◌*◌, ◌<◌, ◌≤◌}
-use mathlib.Core.Path.{◌≡◌, refl, sym, ap, ◌∙◌}
+use mathlib.Core.Path.{◌≡◌, refl, ap, ◌∙◌}
 use mathlib.Core.List.{List, [], ◌∷◌, ◌++◌, append-nil}
 use lib.Dec.{eqb}
 use lib.ListN.{length, get_or, take, drop, set, replicate, length-drop, length-replicate, drop_of_length-le}
@@ -66,9 +66,6 @@ module _ (t : ℕ) (row : List ℕ) where
         let last = opaque_last t (take x row) (get_or row x 0) in
         record { is = rw (add-one, take-suc-set shape x v h, take-suc row x 0 inside, last, told.is, e, i) }
 
-    pub told_end : length shape ≤ x → length row ≤ x → shape ≡ opaque t row
-    told_end a b = sym (take_all x shape a) ∙ told.is ∙ ap (opaque t) (take_all x row b)
-
 -- ---- all of them
 
 pub all_ones : (old new : List ℕ) → new ≡ paste old 0 (replicate (length old) 1) (length old) → new ≡ replicate (length old) 1
@@ -101,4 +98,4 @@ module _ (masking transparent : ℕ) (colours new : List ℕ) where
 pub mask_counts : (planes masking n len : ℕ) → masking ≡ 1 → rows_in_line planes masking * n ≤ len → (planes + 1) * n ≤ len
 mask_counts planes masking n len e h = rw (eq-eqb masking 1 e) at h
 
-pub ruleset shapes = (mask_room, transparent_hidden, other_shows, told_start, told_more, told_end, by_mask, by_colour, by_none, mask_counts)
+pub ruleset shapes = (mask_room, transparent_hidden, other_shows, told_start, told_more, by_mask, by_colour, by_none, mask_counts)

@@ -33,10 +33,8 @@ fn put_opaque(row: &[u8], transparent: u16, shape: &mut [u8])
     requires { length row.now ≡ length shape.old }
     ensures { shape.new ≡ opaque transparent row.now }
 {
-    let mut x = 0;
-    while x < shape.len() {
+    for x in 0..shape.len() {
         shape[x] = shows(row[x], transparent);
-        x += 1;
     }
 }
 

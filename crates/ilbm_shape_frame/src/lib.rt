@@ -7,9 +7,9 @@ ghost use Rattle.ilbm_spec.specs.Rows.{row_length, rows_in_line, IsRead, colour_
 ghost use Rattle.ilbm_spec.specs.Shapes.{shape_bits, shaped_lines, colours_after, shape_after};
 ghost use Rattle.ilbm_spread.specs.Spread.{IsSpread};
 
+use iff_refusal::Refusal;
 use ilbm_plane_rows::{judge_rows, row_count, row_length};
 use ilbm_shape_line::write_shaped_line;
-use ilbm_spec::LineAnswer;
 use ilbm_spread::spread_table;
 
 // Writes scan lines that are known to be sound with their shapes, one after the other, and returns the place after them.
@@ -38,8 +38,7 @@ fn write_shaped_lines(
         body.now h 0 ≡ found (shape.new, result) }
 {
     let mut q = 0;
-    let mut y = 0;
-    while y < h {
+    for y in 0..h {
         let from = y * w;
         let to = from + w;
         q = write_shaped_line(
@@ -55,7 +54,6 @@ fn write_shaped_lines(
             &mut frame[from..to],
             &mut shape[from..to],
         );
-        y = y + 1;
     }
     q
 }
@@ -128,7 +126,7 @@ pub fn scan_shaped_frame(
     compression: u8,
     frame: &mut [u8],
     shape: &mut [u8],
-) -> LineAnswer
+) -> Result<usize, Refusal>
     requires w_bound { (w ≤ 65535) × (h ≤ 65535) × (planes ≤ 8) }
     requires frame_len { (length frame.old ≡ w * h) × (length shape.old ≡ w * h) }
     ensures is { result ≡ line_answer (shaped_lines compression w planes masking transparent body.now h 0) }
@@ -139,22 +137,17 @@ pub fn scan_shaped_frame(
 {
     let n = row_length(w);
     let rows = row_count(planes, masking);
-    let judged = judge_rows(body, 0, n, h * rows, compression);
-    match judged {
-        LineAnswer::Next(end) => {
-            write_shaped_frame(
-                body,
-                w,
-                h,
-                planes,
-                masking,
-                transparent,
-                compression,
-                frame,
-                shape,
-            );
-            LineAnswer::Next(end)
-        }
-        LineAnswer::Refused { number, place } => LineAnswer::Refused { number, place },
-    }
+    let end = judge_rows(body, 0, n, h * rows, compression)?;
+    write_shaped_frame(
+        body,
+        w,
+        h,
+        planes,
+        masking,
+        transparent,
+        compression,
+        frame,
+        shape,
+    );
+    Ok(end)
 }

@@ -2,7 +2,7 @@
 use Prim.Native.Nat.{ℕ, zero, suc, ◌+◌, ◌*◌, ◌≤◌}
 use mathlib.Core.Path.{◌≡◌, refl, ap}
 use mathlib.Core.List.{List, ◌∷◌}
-use lib.ListN.{length, take, drop}
+use lib.ListN.{take, drop}
 use native.Mathlib.Omega.{arith}
 use Rattle.iff_tree.specs.Judge.{found}
 use Rattle.ilbm_spec.specs.Rows.{row_length, mask_rows, rows_in_line, IsRead, rows_from, colours_from, line_with, line_by}
@@ -32,23 +32,12 @@ rows_behind n (suc p) m k buffer =
 pub row_narrow : (w n len : ℕ) → w ≤ n * 8 → len ≡ w → len ≤ n * 8
 row_narrow w n len h e = omega arith
 
-pub same_long : (w a b : ℕ) → a ≡ w → b ≡ w → a ≡ b
-same_long w a b e f = omega arith
-
 -- rows of the length and number that the code has told
 module _ (planes masking rows w n : ℕ) (e : n ≡ row_length w) (f : rows ≡ rows_in_line planes masking) where
   pub read_rows :
       (compression : ℕ) (body : List ℕ) (at : ℕ) → IsRead (rows_from compression body (row_length w) (rows_in_line planes masking) at) →
       IsRead (rows_from compression body n rows at)
   read_rows compression body at i = rw (f, e) i
-
-pub room_kept : (m w n len was : ℕ) → n ≡ row_length w → len ≡ was → m * row_length w ≤ was → m * n ≤ len
-room_kept m w n len was e f h = rw (e, f) h
-
-pub counted_read :
-    (compression : ℕ) (body : List ℕ) (n rows m at : ℕ) → rows ≡ m → IsRead (rows_from compression body n rows at) →
-    IsRead (rows_from compression body n m at)
-counted_read compression body n rows m at e i = rw e at i
 
 pub count_back : (m rows n len : ℕ) → rows ≡ m → rows * n ≤ len → m * n ≤ len
 count_back m rows n len e h = rw e at h
@@ -74,5 +63,3 @@ module _
           let first = rows_first n planes (mask_rows masking) 0 buffer in
           let behind = rows_behind n planes (mask_rows masking) 0 buffer in
           rw (rows-found, first, behind, z, told, gathered, l, i)
-
-pub ruleset shaping = (row_narrow, same_long, read_rows, colours_written, shape_written)

@@ -8,10 +8,10 @@ ghost use Rattle.ilbm_spec.specs.Shapes.{shape_by, shape_bits, shaped_line, colo
 ghost use Rattle.ilbm_spread.specs.Spread.{IsSpread};
 ghost use Rattle.ilbm_gather.specs.Buffer.{rows_in};
 
+use iff_refusal::Refusal;
 use ilbm_gather::gather;
 use ilbm_plane_rows::{judge_rows, row_count, row_length, write_rows};
 use ilbm_shape::put_shape;
-use ilbm_spec::LineAnswer;
 use ilbm_spread::spread_table;
 
 // Writes the colours and the shape of a line whose plane rows stand in the buffer.
@@ -94,7 +94,7 @@ fn scan_shaped_row_in(
     buffer: &mut [u8],
     row: &mut [u8],
     shape: &mut [u8],
-) -> LineAnswer
+) -> Result<usize, Refusal>
     requires w_bound { (w ≤ 65535) × (planes ≤ 8) × (rows_in_line planes masking * row_length w ≤ length buffer.old) }
     requires row_len { (length row.old ≡ w) × (length shape.old ≡ w) }
     ensures is { result ≡ line_answer (shaped_line compression w planes masking transparent body.now at) }
@@ -105,27 +105,22 @@ fn scan_shaped_row_in(
 {
     let n = row_length(w);
     let rows = row_count(planes, masking);
-    let judged = judge_rows(body, at, n, rows, compression);
-    match judged {
-        LineAnswer::Next(next) => {
-            let table = spread_table();
-            write_shaped_line(
-                &table,
-                body,
-                at,
-                w,
-                planes,
-                masking,
-                transparent,
-                compression,
-                buffer,
-                row,
-                shape,
-            );
-            LineAnswer::Next(next)
-        }
-        LineAnswer::Refused { number, place } => LineAnswer::Refused { number, place },
-    }
+    let next = judge_rows(body, at, n, rows, compression)?;
+    let table = spread_table();
+    write_shaped_line(
+        &table,
+        body,
+        at,
+        w,
+        planes,
+        masking,
+        transparent,
+        compression,
+        buffer,
+        row,
+        shape,
+    );
+    Ok(next)
 }
 
 // A scan line with its shape from a place of the BODY. Most lines have room in a small buffer, which is sooner cleared.
@@ -139,7 +134,7 @@ pub fn scan_shaped_row(
     compression: u8,
     row: &mut [u8],
     shape: &mut [u8],
-) -> LineAnswer
+) -> Result<usize, Refusal>
     requires w_bound { (w ≤ 65535) × (planes ≤ 8) }
     requires row_len { (length row.old ≡ w) × (length shape.old ≡ w) }
     ensures is { result ≡ line_answer (shaped_line compression w planes masking transparent body.now at) }

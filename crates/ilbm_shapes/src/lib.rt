@@ -7,10 +7,11 @@ ghost use Rattle.ilbm_spec.specs.Shapes.{shape_line_of, shape_frame_of, colours_
 ghost use Rattle.ilbm_find.specs.Seen.{Judged};
 ghost use Rattle.ilbm_shapes.specs.Shapes.{LineDone, FrameDone};
 
+use iff_refusal::{Reason, Refusal};
 use ilbm_body_shapes::{shape_frame_in_body, shape_line_in_body};
-use ilbm_content::{Contents, Part};
-use ilbm_find::{View, view_picture};
-use ilbm_spec::{BitmapHeader, FrameAnswer, LineAnswer};
+use ilbm_content::Contents;
+use ilbm_find::view_picture;
+use ilbm_spec::BitmapHeader;
 
 // A scan line of a picture that is not refused.
 fn picture_shape_line(
@@ -20,18 +21,15 @@ fn picture_shape_line(
     start: usize,
     row: &mut [u8],
     shape: &mut [u8],
-) -> LineAnswer
+) -> Result<usize, Refusal>
     requires { Judged s.now c header }
     ensures { LineDone s.now c header start row.old shape.old
         result row.new shape.new }
 {
     let body = c.body;
     match body {
-        Part::Nothing => LineAnswer::Refused {
-            number: 25,
-            place: 0,
-        },
-        Part::Between(a, b) => shape_line_in_body(
+        None => Err(Reason::NoBody.at(0)),
+        Some((a, b)) => shape_line_in_body(
             &s[a..b],
             header.w,
             header.planes,
@@ -47,7 +45,13 @@ fn picture_shape_line(
 
 // The colour numbers of a scan line of picture i with their shape, from a place of its BODY, and the next place; a refusal leaves both rows
 // as they were.
-pub fn shape_line(s: &[u8], i: usize, start: usize, row: &mut [u8], shape: &mut [u8]) -> LineAnswer
+pub fn shape_line(
+    s: &[u8],
+    i: usize,
+    start: usize,
+    row: &mut [u8],
+    shape: &mut [u8],
+) -> Result<usize, Refusal>
     ensures answer { result
         ≡ line_answer (shape_line_of s.now i start (length row.old) (length shape.old)) }
     ensures colours { row.new ≡ colours_after
@@ -55,11 +59,8 @@ pub fn shape_line(s: &[u8], i: usize, start: usize, row: &mut [u8], shape: &mut 
     ensures shape { shape.new ≡ shape_after
         (shape_line_of s.now i start (length row.old) (length shape.old)) shape.old }
 {
-    let v = view_picture(s, i);
-    match v {
-        View::Seen(c, header) => picture_shape_line(s, c, header, start, row, shape),
-        View::Refused(number, place) => LineAnswer::Refused { number, place },
-    }
+    let (c, header) = view_picture(s, i)?;
+    picture_shape_line(s, c, header, start, row, shape)
 }
 
 // The frame of a picture that is not refused.
@@ -69,18 +70,15 @@ fn picture_shape_frame(
     header: BitmapHeader,
     frame: &mut [u8],
     shape: &mut [u8],
-) -> FrameAnswer
+) -> Result<usize, Refusal>
     requires { Judged s.now c header }
     ensures { FrameDone s.now c header frame.old shape.old
         result frame.new shape.new }
 {
     let body = c.body;
     match body {
-        Part::Nothing => FrameAnswer::Refused {
-            number: 25,
-            place: 0,
-        },
-        Part::Between(from, to) => shape_frame_in_body(
+        None => Err(Reason::NoBody.at(0)),
+        Some((from, to)) => shape_frame_in_body(
             &s[from..to],
             header.w,
             header.h,
@@ -96,7 +94,7 @@ fn picture_shape_frame(
 
 // The colour numbers of all scan lines of picture i with their shape, and how many bytes of the BODY are left; a refusal leaves both frames
 // as they were.
-pub fn shape_frame(s: &[u8], i: usize, frame: &mut [u8], shape: &mut [u8]) -> FrameAnswer
+pub fn shape_frame(s: &[u8], i: usize, frame: &mut [u8], shape: &mut [u8]) -> Result<usize, Refusal>
     ensures answer { result
         ≡ frame_answer (shape_frame_of s.now i (length frame.old) (length shape.old)) }
     ensures colours { frame.new ≡ colours_after
@@ -104,9 +102,6 @@ pub fn shape_frame(s: &[u8], i: usize, frame: &mut [u8], shape: &mut [u8]) -> Fr
     ensures shape { shape.new ≡ shape_after
         (shape_frame_of s.now i (length frame.old) (length shape.old)) shape.old }
 {
-    let v = view_picture(s, i);
-    match v {
-        View::Seen(c, header) => picture_shape_frame(s, c, header, frame, shape),
-        View::Refused(number, place) => FrameAnswer::Refused { number, place },
-    }
+    let (c, header) = view_picture(s, i)?;
+    picture_shape_frame(s, c, header, frame, shape)
 }

@@ -11,6 +11,7 @@ use Rattle.ilbm_spec.specs.Rows.{Read, rows_from, colour_by, colours_from, lines
 use Rattle.ilbm_spec.specs.Colours.{black, entry_at, holds, is_half_bright, number_colour, modified, pixel_colour, carried}
 use Rattle.ilbm_spec.specs.Colours.{colour_line_in_body, colour_frame_in_body, colour_line_read}
 use Rattle.ilbm_spec.specs.Triples.{triples_from, triples_by}
+use Rattle.iff_refusal.specs.declared.Reason.TheVariants.{NoBody, BodyEnds, WrongLength, BeyondBody, HoldPlanes}
 
 -- A palette of two entries and a cut one. Hold-and-modify by 6 planes and by 8, from black on; half-bright, and not with bit 11.
 abbrev two_and_cut : List ℕ
@@ -55,7 +56,7 @@ calls =
 colours_in_order :
     calls ≡
     found (170 ∷ 0 ∷ 0 ∷ 0 ∷ 0 ∷ 255 ∷ [], 0) ∷
-    refused 46 0 ∷ refused 29 0 ∷ refused 28 0 ∷ refused 26 24 ∷ refused 25 0 ∷ refused 46 0 ∷ []
+    refused HoldPlanes 0 ∷ refused BeyondBody 0 ∷ refused WrongLength 0 ∷ refused BodyEnds 24 ∷ refused NoBody 0 ∷ refused HoldPlanes 0 ∷ []
 unfolding
     fields_refusal header_in rows_from colours_from colour_by lines_with plain_row carried pixel_colour modified number_colour entry_at holds
     is_half_bright word

@@ -6,9 +6,10 @@ use Rattle.iff_tree.specs.Judge.{refused}
 use Rattle.ilbm_spec.specs.declared.BitmapHeader.{BitmapHeader}
 use Rattle.ilbm_spec.specs.declared.Colour.{Colour}
 use Rattle.ilbm_spec.specs.Contents.{Content}
-use Rattle.ilbm_spec.specs.Pictures.{Viewed, view_of, data_of, header_in, palette_of_property, empty_fields, fields_refusal}
+use Rattle.ilbm_spec.specs.Pictures.{Viewed, view_of, data_of, header_in, palette_of_property, empty_fields, fields_refusal, passing}
 use Rattle.ilbm_spec.specs.Rows.{row_length, rows_in_line, Read, Pixels, colour_numbers, line_with, lines_with, leftover, start_inside}
-use Rattle.ilbm_spec.specs.Rows.{right_length, on_fields, ask_body}
+use Rattle.ilbm_spec.specs.Rows.{right_length, ask_body}
+use Rattle.iff_refusal.specs.declared.Reason.TheVariants.{HoldPlanes}
 
 abbrev pub colour : ℕ → ℕ → ℕ → Colour
 colour r g b = record { red = r; green = g; blue = b }
@@ -97,7 +98,7 @@ abbrev pub wrong_planes : ℕ → ℕ → Bool
 wrong_planes mode planes = both (holds mode) (not (either (eqb planes 6) (eqb planes 8)))
 
 abbrev pub mode_shown : {A : Type 0} → ℕ → ℕ → Read A → Read A
-mode_shown mode planes rows = pick (wrong_planes mode planes) (refused 46 0) rows
+mode_shown mode planes rows = pick (wrong_planes mode planes) (refused HoldPlanes 0) rows
 
 -- A scan line of a BODY in colours, by its header's numbers, the number that CAMG holds and the palette: 29; "28 if the lent row isn't 3w
 -- bytes"; then 27 and 26.
@@ -117,13 +118,13 @@ body_colour_frame body w h planes masking compression mode palette room =
 -- Of any bytes as a BODY, with the header's fields as numbers: 46 behind the refusals of the fields.
 abbrev pub colour_line_in_body : List ℕ → ℕ → ℕ → ℕ → ℕ → ℕ → List ℕ → ℕ → ℕ → Read (List ℕ)
 colour_line_in_body body w planes masking compression mode palette start room =
-    on_fields (fields_refusal planes masking compression (empty_fields w 1 planes))
+    passing (fields_refusal planes masking compression (empty_fields w 1 planes))
     (mode_shown mode planes
     (body_colour_line body w planes masking compression mode palette start room))
 
 abbrev pub colour_frame_in_body : List ℕ → ℕ → ℕ → ℕ → ℕ → ℕ → ℕ → List ℕ → ℕ → Read (List ℕ)
 colour_frame_in_body body w h planes masking compression mode palette room =
-    on_fields (fields_refusal planes masking compression (empty_fields w h planes))
+    passing (fields_refusal planes masking compression (empty_fields w h planes))
     (mode_shown mode planes
     (body_colour_frame body w h planes masking compression mode palette room))
 

@@ -3,12 +3,12 @@ use Prim.Native.Nat.{ℕ, zero, suc, ◌*◌}
 use Rattle.std.specs.Prelude.{◌≡◌, false, List, [], ◌++◌, take, drop}
 use Rattle.iff_tree.specs.Judge.{found}
 use Rattle.ilbm_spec.specs.declared.Colour.{Colour}
-use Rattle.ilbm_spec.specs.Rows.{Read, then_read, on_fields, line_in_body, frame_in_body, ask_body, line_of, frame_of}
+use Rattle.ilbm_spec.specs.Rows.{Read, then_read, line_in_body, frame_in_body, ask_body, line_of, frame_of}
 use Rattle.ilbm_spec.specs.Colours.{black, holds, is_half_bright, number_colour, Step, pixel_colour, carried, each_colour, mode_shown}
 use Rattle.ilbm_spec.specs.Colours.{colour_line_in_body, colour_frame_in_body, mode_of_view, colour_line_of, colour_frame_of}
 use Rattle.ilbm_spec.specs.declared.BitmapHeader.{BitmapHeader}
 use Rattle.ilbm_spec.specs.Contents.{Content}
-use Rattle.ilbm_spec.specs.Pictures.{view_of, data_of, header_in, palette_of_property, empty_fields, fields_refusal}
+use Rattle.ilbm_spec.specs.Pictures.{view_of, data_of, header_in, palette_of_property, empty_fields, fields_refusal, passing}
 
 -- what is read, and something made of it
 abbrev pub read_as : (List ℕ → List ℕ) → Read (List ℕ) → Read (List ℕ)
@@ -47,13 +47,13 @@ pub record ColoursOfNumbers : Type 0 where
   pub body_line_lem :
       (body : List ℕ) (w planes masking compression mode : ℕ) (palette : List ℕ) (start room : ℕ) →
       colour_line_in_body body w planes masking compression mode palette start (3 * room)
-      ≡ on_fields (fields_refusal planes masking compression (empty_fields w 1 planes))
+      ≡ passing (fields_refusal planes masking compression (empty_fields w 1 planes))
       (mode_shown mode planes
       (read_as (carried (pixel_colour mode planes palette) black) (line_in_body body w planes masking compression start room)))
   pub body_frame_lem :
       (body : List ℕ) (w h planes masking compression mode : ℕ) (palette : List ℕ) (room : ℕ) →
       colour_frame_in_body body w h planes masking compression mode palette (3 * room)
-      ≡ on_fields (fields_refusal planes masking compression (empty_fields w h planes))
+      ≡ passing (fields_refusal planes masking compression (empty_fields w h planes))
       (mode_shown mode planes
       (read_as (carried_lines (pixel_colour mode planes palette) w h) (frame_in_body body w h planes masking compression room)))
   pub plain_line :

@@ -14,6 +14,10 @@ use Rattle.ilbm_spec.specs.Pictures.{header_in, wrong_size, fields_refusal, head
 use Rattle.ilbm_spec.specs.Rows.{Read, rows_from, colour_by, colours_from, lines_with, line_in_body, frame_in_body}
 use Rattle.ilbm_spec.specs.Shapes.{opaque, shape_by, Shaped, shaped, shape_line_in_body, shape_frame_in_body}
 use Rattle.ilbm_spec.specs.Table.{picture_row, picture_rows, rows_for, row_numbers, table_numbers, table_after}
+use Rattle.iff_refusal.specs.declared.Reason.TheVariants.{TableTooShort, EmptyPicture, BodyEnds, WrongLength, BeyondBody, NoShape}
+use Rattle.iff_refusal.specs.declared.Reason.TheVariants.{TooManyPlanes, UnknownMasking, UnknownCompression}
+use Rattle.iff_refusal.specs.declared.Reason.{Reason}
+use Rattle.std.specs.Prelude.{Result, Ok, Err}
 
 -- data by which a chunk is known
 abbrev mark : ℕ → List ℕ
@@ -68,7 +72,7 @@ with_fields planes masking compression =
     header_in
     (0 ∷ 0 ∷ 0 ∷ 2 ∷ 0 ∷ 0 ∷ 0 ∷ 0 ∷ planes ∷ masking ∷ compression ∷ 0 ∷ 0 ∷ 0 ∷ 0 ∷ 0 ∷ 0 ∷ 0 ∷ 0 ∷ 0 ∷ [])
 
-abbrev refusals : List ℕ
+abbrev refusals : List (Result (Unit {0}) Reason)
 refusals =
     header_refusal (with_fields 9 4 2) true ∷
     header_refusal (with_fields 8 4 2) true ∷
@@ -76,7 +80,7 @@ refusals =
     header_refusal (with_fields 8 3 1) true ∷
     header_refusal (with_fields 8 3 1) false ∷ []
 
-header_in_order : refusals ≡ 41 ∷ 42 ∷ 43 ∷ 24 ∷ 0 ∷ []
+header_in_order : refusals ≡ Err TooManyPlanes ∷ Err UnknownMasking ∷ Err UnknownCompression ∷ Err EmptyPicture ∷ Ok tt ∷ []
 unfolding header_in fields_refusal header_refusal
 header_in_order = refl
 
@@ -112,7 +116,7 @@ unfolding
 two_rows = refl
 
 -- "13 if the table has fewer places than pictures"
-room_for_one : rows_for 59 (found sheet) ≡ refused 13 0
+room_for_one : rows_for 59 (found sheet) ≡ refused TableTooShort 0
 unfolding contents_from
 room_for_one = refl
 
@@ -126,7 +130,7 @@ alone =
     frame_in_body (128 ∷ 0 ∷ []) 2 0 1 0 0 0 ∷ []
 
 body_alone :
-    alone ≡ found (1 ∷ 0 ∷ [], 2) ∷ found (1 ∷ 0 ∷ [], 0) ∷ refused 24 0 ∷ refused 24 0 ∷ refused 24 0 ∷ []
+    alone ≡ found (1 ∷ 0 ∷ [], 2) ∷ found (1 ∷ 0 ∷ [], 0) ∷ refused EmptyPicture 0 ∷ refused EmptyPicture 0 ∷ refused EmptyPicture 0 ∷ []
 unfolding fields_refusal rows_from colours_from colour_by lines_with plain_row
 body_alone = refl
 
@@ -154,6 +158,6 @@ which_pixels :
     found (shaped (1 ∷ 2 ∷ 3 ∷ []) (1 ∷ 1 ∷ 0 ∷ []), 6) ∷
     found (shaped (1 ∷ 2 ∷ 3 ∷ []) (1 ∷ 0 ∷ 1 ∷ []), 4) ∷
     found (shaped (1 ∷ 2 ∷ 3 ∷ []) (1 ∷ 1 ∷ 0 ∷ []), 0) ∷
-    refused 29 0 ∷ refused 28 0 ∷ refused 28 0 ∷ refused 44 0 ∷ refused 26 6 ∷ []
+    refused BeyondBody 0 ∷ refused WrongLength 0 ∷ refused WrongLength 0 ∷ refused NoShape 0 ∷ refused BodyEnds 6 ∷ []
 unfolding fields_refusal rows_from colours_from colour_by lines_with plain_row opaque shape_by
 which_pixels = refl

@@ -1,21 +1,22 @@
 -- 01 "The palette": what the palette call tells.
-use Rattle.std.specs.Prelude.{ℕ, ◌+◌, List, [], length}
+use Rattle.std.specs.Prelude.{ℕ, ◌+◌, List, [], length, Option, Some, None}
 use Rattle.iff_tree.specs.Judge.{found, refused}
 use Rattle.ilbm_spec.specs.Contents.{Located, Property, own, shared, absent}
+use Rattle.iff_refusal.specs.declared.Refusal.{Refusal}
+use Rattle.iff_refusal.specs.Numbers.{refusal}
 use Rattle.ilbm_spec.specs.Pictures.{Viewed, view_of, palette_of_property}
 
--- 0 and 0, or the number and place of a refusal; and the colours
-pub record Answer : Type 0 where
-  pub number : ℕ
-  pub place : ℕ
+-- a refusal, if any; and the colours
+pub record Palette : Type 0 where
+  pub refusal : Option Refusal
   pub colours : List ℕ
 
 -- "the CMAP that counts, or the caller's own default where none counts"; "after any refusal, an empty part"
-abbrev pub answer_in : Viewed → List ℕ → Answer
-answer_in (found c) default = record { number = 0; place = 0; colours = palette_of_property c.cmap default }
-answer_in (refused k p) default = record { number = k; place = p; colours = [] }
+abbrev pub answer_in : Viewed → List ℕ → Palette
+answer_in (found c) default = record { refusal = None; colours = palette_of_property c.cmap default }
+answer_in (refused k p) default = record { refusal = Some (refusal k p); colours = [] }
 
-abbrev pub palette_answer : List ℕ → ℕ → List ℕ → Answer
+abbrev pub palette_answer : List ℕ → ℕ → List ℕ → Palette
 palette_answer s i default = answer_in (view_of s i) default
 
 -- "handed back as a part of the slice it came from": the file from a place on, or the default. After a refusal, the file from 0 on.

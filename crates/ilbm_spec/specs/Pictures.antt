@@ -9,9 +9,12 @@ use Rattle.ilbm_spec.specs.declared.BitmapHeader.{BitmapHeader}
 use Rattle.ilbm_spec.specs.declared.HotSpot.{HotSpot}
 use Rattle.ilbm_spec.specs.declared.Destination.{Destination}
 use Rattle.ilbm_spec.specs.declared.Picture.{Picture}
-use Rattle.ilbm_spec.specs.declared.PictureAnswer.{PictureAnswer}
-use Rattle.ilbm_spec.specs.declared.PictureAnswer.TheVariants.{Shown, Refused}
 use Rattle.ilbm_spec.specs.Contents.{Property, own, shared, absent, Content, contents_of}
+use Rattle.iff_refusal.specs.declared.Reason.TheVariants.{NoPicture, NoHeader, SecondBody, WrongSize, EmptyPicture, TooManyPlanes, UnknownMasking}
+use Rattle.iff_refusal.specs.declared.Reason.TheVariants.{UnknownCompression}
+use Rattle.iff_refusal.specs.declared.Reason.{Reason}
+use Rattle.iff_refusal.specs.Numbers.{Answer, refusing}
+use Rattle.std.specs.Prelude.{Result, Ok, Err}
 
 -- a big-endian number of two bytes in a chunk's data
 abbrev pub u16 : List ℕ → ℕ → ℕ
@@ -85,39 +88,43 @@ wrong_size c =
 abbrev pub empty_fields : ℕ → ℕ → ℕ → Bool
 empty_fields w h planes = either (eqb w 0) (either (eqb h 0) (eqb planes 0))
 
--- "41 nPlanes over 8; 42 masking over 3; 43 compression over 1"; 24 if the picture is empty; "checked in the order 41, 42, 43, 24". The
--- number, or 0.
-unfoldable pub fields_refusal : ℕ → ℕ → ℕ → Bool → ℕ
+-- "41 nPlanes over 8; 42 masking over 3; 43 compression over 1"; 24 if the picture is empty; "checked in the order 41, 42, 43, 24".
+unfoldable pub fields_refusal : ℕ → ℕ → ℕ → Bool → Result (Unit {0}) Reason
 fields_refusal planes masking compression empty =
-    pick (ltb 8 planes) 41
-    (pick (ltb 3 masking) 42
-    (pick (ltb 1 compression) 43
-    (pick empty 24
-    0)))
+    pick (ltb 8 planes) (Err TooManyPlanes)
+    (pick (ltb 3 masking) (Err UnknownMasking)
+    (pick (ltb 1 compression) (Err UnknownCompression)
+    (pick empty (Err EmptyPicture)
+    (Ok tt))))
 
 -- "24 now means w, h or nPlanes 0 with a BODY"
-unfoldable pub header_refusal : BitmapHeader → Bool → ℕ
+unfoldable pub header_refusal : BitmapHeader → Bool → Result (Unit {0}) Reason
 header_refusal b hasBody =
     fields_refusal b.planes b.masking b.compression (both hasBody (empty_fields b.w b.h b.planes))
 
--- 21, 22, 23 and then the header's, "where 24 stood": the number, or 0.
-unfoldable pub picture_refusal : Content → ℕ
+-- 21, 22, 23 and then the header's, "where 24 stood".
+unfoldable pub picture_refusal : Content → Result (Unit {0}) Reason
 picture_refusal c =
-    pick (not (counts c.bmhd)) 21
-    (pick (ltb 1 (length c.bodies)) 22
-    (pick (wrong_size c) 23
+    pick (not (counts c.bmhd)) (Err NoHeader)
+    (pick (ltb 1 (length c.bodies)) (Err SecondBody)
+    (pick (wrong_size c) (Err WrongSize)
     (header_refusal (header_in (data_of c.bmhd)) (ltb 0 (length c.bodies)))))
 
 -- A picture that is not refused, or the refusal.
 abbrev pub Viewed : Type 0
 Viewed = Found Content
 
+-- what is found behind a check that passes; a refusal for what has no place
+abbrev pub passing : {A : Type 0} → Result (Unit {0}) Reason → Found A → Found A
+passing (Ok u) f = f
+passing (Err k) f = refused k 0
+
 abbrev pub judged : Content → Viewed
-judged c = pick (eqb (picture_refusal c) 0) (found c) (refused (picture_refusal c) 0)
+judged c = passing (picture_refusal c) (found c)
 
 -- the picture of number i in a list; 20: "no such picture"
 unfoldable pub pick_content : List Content → ℕ → Viewed
-pick_content [] i = refused 20 0
+pick_content [] i = refused NoPicture 0
 pick_content (c ∷ cs) zero = judged c
 pick_content (c ∷ cs) (suc i) = pick_content cs i
 
@@ -146,11 +153,11 @@ picture_from c =
       view_mode_from = origin_of c.camg;
     }
 
-abbrev pub picture_answer : Viewed → PictureAnswer
-picture_answer (found c) = Shown (picture_from c)
-picture_answer (refused k p) = Refused k p
+abbrev pub picture_answer : Viewed → Answer Picture
+picture_answer (found c) = Ok (picture_from c)
+picture_answer (refused k p) = refusing k p
 
-abbrev pub picture_of : List ℕ → ℕ → PictureAnswer
+abbrev pub picture_of : List ℕ → ℕ → Answer Picture
 picture_of s i = picture_answer (view_of s i)
 
 -- "The palette is the CMAP that counts, or the caller's own default where none counts"

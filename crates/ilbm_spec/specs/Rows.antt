@@ -3,13 +3,12 @@ use Rattle.std.specs.Prelude.{ℕ, zero, suc, ◌+◌, ◌-◌, ◌*◌, ◌/◌
 use Rattle.iff_name.specs.Name.{pick}
 use Rattle.byterun_row.specs.ByteRun.{Row, filled, over, short, row_of}
 use Rattle.ilbm_spec.specs.declared.BitmapHeader.{BitmapHeader}
-use Rattle.ilbm_spec.specs.declared.LineAnswer.{LineAnswer}
-use Rattle.ilbm_spec.specs.declared.LineAnswer.TheVariants.{Next, Refused}
-use Rattle.ilbm_spec.specs.declared.FrameAnswer.{FrameAnswer}
-use Rattle.ilbm_spec.specs.declared.FrameAnswer.TheVariants.{Leftover, Refused as Frame-refused}
 use Rattle.iff_tree.specs.Judge.{Found, found, refused}
 use Rattle.ilbm_spec.specs.Contents.{Located, Content}
-use Rattle.ilbm_spec.specs.Pictures.{Viewed, view_of, data_of, header_in, empty_fields, fields_refusal}
+use Rattle.ilbm_spec.specs.Pictures.{Viewed, passing, view_of, data_of, header_in, empty_fields, fields_refusal}
+use Rattle.iff_refusal.specs.declared.Reason.TheVariants.{NoBody, BodyEnds, RowOverstepped, WrongLength, BeyondBody}
+use Rattle.iff_refusal.specs.Numbers.{Answer, refusing}
+use Rattle.std.specs.Prelude.{Ok}
 
 -- "A plane row is 2 * floor((w+15)/16) bytes."
 abbrev pub row_length : ℕ → ℕ
@@ -38,8 +37,8 @@ IsRead (refused k p) = ⊥
 -- a plane row: 27 where a copy or repeat oversteps it, 26 where the BODY ends before it is full
 abbrev pub row_read : Row → Read (List ℕ)
 row_read (filled bs q) = found (bs, q)
-row_read (over q) = refused 27 q
-row_read (short q) = refused 26 q
+row_read (over q) = refused RowOverstepped q
+row_read (short q) = refused BodyEnds q
 
 -- so many plane rows of n bytes, one after the other: "Faults 26 and 27 are met in row order"
 unfoldable pub rows_from : ℕ → List ℕ → ℕ → ℕ → ℕ → Read (List (List ℕ))
@@ -95,11 +94,11 @@ leftover n (refused k p) = refused k p
 
 -- 29: "start place beyond the BODY's end"
 abbrev pub start_inside : {A : Type 0} → List ℕ → ℕ → Read A → Read A
-start_inside body start line = pick (ltb (length body) start) (refused 29 0) line
+start_inside body start line = pick (ltb (length body) start) (refused BeyondBody 0) line
 
 -- 28: "lent row not exactly w bytes, or lent frame not w times h"
 abbrev pub right_length : {A : Type 0} → Bool → Read A → Read A
-right_length right rows = pick (not right) (refused 28 0) rows
+right_length right rows = pick (not right) (refused WrongLength 0) rows
 
 -- A scan line of a BODY, by its header's numbers, for a lent row of `room` bytes: 29, 28, then 27 and 26. "A scan line is read from a
 -- place in the BODY and returns the next place".
@@ -113,22 +112,18 @@ body_frame body w h planes masking compression room =
     right_length (eqb room (w * h))
     (leftover (length body) (lines_by compression w planes (rows_in_line planes masking) body h 0))
 
--- Rows of a BODY by itself, with the header's fields as numbers: 41, 42, 43 or 24 for these fields, and otherwise what is read.
-abbrev pub on_fields : {A : Type 0} → ℕ → Read A → Read A
-on_fields refusal rows = pick (eqb refusal 0) rows (refused refusal 0)
-
--- A scan line of any bytes as a BODY; it is one row of its picture, so of the three that may not be 0 it has w and the planes.
+-- A scan line of any bytes as a BODY, with the header's fields as numbers: 41, 42, 43 or 24 for these fields, and otherwise what is read. It is one row of its picture, so of the three that may not be 0 it has w and the planes.
 abbrev pub line_in_body : List ℕ → ℕ → ℕ → ℕ → ℕ → ℕ → ℕ → Read (List ℕ)
 line_in_body body w planes masking compression start room =
-    on_fields (fields_refusal planes masking compression (empty_fields w 1 planes)) (body_line body w planes masking compression start room)
+    passing (fields_refusal planes masking compression (empty_fields w 1 planes)) (body_line body w planes masking compression start room)
 
 abbrev pub frame_in_body : List ℕ → ℕ → ℕ → ℕ → ℕ → ℕ → ℕ → Read (List ℕ)
 frame_in_body body w h planes masking compression room =
-    on_fields (fields_refusal planes masking compression (empty_fields w h planes)) (body_frame body w h planes masking compression room)
+    passing (fields_refusal planes masking compression (empty_fields w h planes)) (body_frame body w h planes masking compression room)
 
 -- Rows are asked of a picture: 25 for no BODY, and otherwise what `rows` says of it and its BODY.
 abbrev pub on_body : {A : Type 0} → List Located → (List ℕ → Read A) → Read A
-on_body [] rows = refused 25 0
+on_body [] rows = refused NoBody 0
 on_body (body ∷ others) rows = rows body.content
 
 abbrev pub ask_body : {A : Type 0} → Viewed → (Content → List ℕ → Read A) → Read A
@@ -146,13 +141,12 @@ abbrev pub frame_read : Viewed → ℕ → Read (List ℕ)
 frame_read v room = ask_rows v (λ b body. body_frame body b.w b.h b.planes b.masking b.compression room)
 
 -- what is told, and what stands in the lent row or frame afterwards: a refusal changes nothing
-abbrev pub line_answer : {A : Type 0} → Read A → LineAnswer
-line_answer (found (a, q)) = Next q
-line_answer (refused k p) = Refused k p
+abbrev pub line_answer : {A : Type 0} → Read A → Answer ℕ
+line_answer (found (a, q)) = Ok q
+line_answer (refused k p) = refusing k p
 
-abbrev pub frame_answer : {A : Type 0} → Read A → FrameAnswer
-frame_answer (found (a, n)) = Leftover n
-frame_answer (refused k p) = Frame-refused k p
+abbrev pub frame_answer : {A : Type 0} → Read A → Answer ℕ
+frame_answer rows = line_answer rows
 
 abbrev pub bytes_after : Read (List ℕ) → List ℕ → List ℕ
 bytes_after (found (cs, q)) old = cs

@@ -2,9 +2,10 @@
 use Rattle.std.specs.Prelude.{ℕ, ◌*◌, List, [], ◌∷◌, eqb, length, drop, replicate}
 use Rattle.iff_name.specs.Name.{both, pick}
 use Rattle.iff_tree.specs.Judge.{found, refused}
-use Rattle.ilbm_spec.specs.Pictures.{Viewed, view_of, empty_fields, fields_refusal}
+use Rattle.ilbm_spec.specs.Pictures.{Viewed, view_of, empty_fields, fields_refusal, passing}
 use Rattle.ilbm_spec.specs.Rows.{row_length, rows_in_line, Read, then_read, colours_from, Pixels, colour_numbers, line_with, lines_with}
-use Rattle.ilbm_spec.specs.Rows.{leftover, start_inside, right_length, on_fields, ask_rows}
+use Rattle.ilbm_spec.specs.Rows.{leftover, start_inside, right_length, ask_rows}
+use Rattle.iff_refusal.specs.declared.Reason.TheVariants.{NoShape}
 
 -- "Masking 2: 0 exactly where the colour number equals transparentColor."
 unfoldable pub opaque : ℕ → List ℕ → List ℕ
@@ -49,7 +50,7 @@ shaped_lines compression w planes masking transparent body lines at =
 
 -- "Masking 3 isn't worked out.": "44, only where the shape is asked, for masking 3, after 28"
 abbrev pub shape_asked : ℕ → Read Shaped → Read Shaped
-shape_asked masking rows = pick (eqb masking 3) (refused 44 0) rows
+shape_asked masking rows = pick (eqb masking 3) (refused NoShape 0) rows
 
 -- A scan line of a BODY, for a lent row and a lent shape: 29; 28 "also if the shape row isn't w bytes"; 44; then 27 and 26.
 abbrev pub body_shape_line : List ℕ → ℕ → ℕ → ℕ → ℕ → ℕ → ℕ → ℕ → ℕ → Read Shaped
@@ -67,12 +68,12 @@ body_shape_frame body w h planes masking compression transparent room shapeRoom 
 -- Of any bytes as a BODY, with the header's fields as numbers.
 abbrev pub shape_line_in_body : List ℕ → ℕ → ℕ → ℕ → ℕ → ℕ → ℕ → ℕ → ℕ → Read Shaped
 shape_line_in_body body w planes masking compression transparent start room shapeRoom =
-    on_fields (fields_refusal planes masking compression (empty_fields w 1 planes))
+    passing (fields_refusal planes masking compression (empty_fields w 1 planes))
     (body_shape_line body w planes masking compression transparent start room shapeRoom)
 
 abbrev pub shape_frame_in_body : List ℕ → ℕ → ℕ → ℕ → ℕ → ℕ → ℕ → ℕ → ℕ → Read Shaped
 shape_frame_in_body body w h planes masking compression transparent room shapeRoom =
-    on_fields (fields_refusal planes masking compression (empty_fields w h planes))
+    passing (fields_refusal planes masking compression (empty_fields w h planes))
     (body_shape_frame body w h planes masking compression transparent room shapeRoom)
 
 -- Of a picture.

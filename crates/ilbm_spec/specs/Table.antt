@@ -6,12 +6,14 @@ use Rattle.iff_chunk.specs.Chunks.{Chunk}
 use Rattle.iff_tree.specs.Judge.{Found, found, refused, read_file}
 use Rattle.ilbm_spec.specs.declared.Origin.{Origin}
 use Rattle.ilbm_spec.specs.declared.Origin.TheVariants.{Own, Shared, Absent}
-use Rattle.ilbm_spec.specs.declared.TableAnswer.{TableAnswer}
-use Rattle.ilbm_spec.specs.declared.TableAnswer.TheVariants.{Pictures, Refused}
 use Rattle.ilbm_spec.specs.Names.{ILBM}
 use Rattle.ilbm_spec.specs.Contents.{Located, Property, no_scope, Content, content_by, contents_of}
 use Rattle.ilbm_spec.specs.Pictures.{origin_of, picture_refusal}
 use Rattle.ilbm_spec.specs.Palette.{extent_of, extent_from}
+use Rattle.iff_refusal.specs.declared.Reason.TheVariants.{TableTooShort}
+use Rattle.iff_refusal.specs.declared.Reason.{Reason}
+use Rattle.iff_refusal.specs.Numbers.{Answer, refusing, number_unless}
+use Rattle.std.specs.Prelude.{Result, Ok, Err}
 
 -- "Each property is told with its origin: own, shared with the place of the PROP, or absent": 1, 2 or 0, and the place, 0 unless shared
 abbrev pub origin_number : Origin → ℕ
@@ -82,9 +84,13 @@ row_with answer c =
 abbrev pub without_parts : Content → Content
 without_parts c = content_by c.place no_scope []
 
+abbrev pub shown_parts : Result (Unit {0}) Reason → Content → Content
+shown_parts (Ok u) c = c
+shown_parts (Err k) c = without_parts c
+
 -- of a refused picture its answer, place and type are told, and the rest is 0
 unfoldable pub picture_row : Content → PictureRow
-picture_row c = row_with (picture_refusal c) (pick (eqb (picture_refusal c) 0) c (without_parts c))
+picture_row c = row_with (number_unless (picture_refusal c)) (shown_parts (picture_refusal c) c)
 
 unfoldable pub picture_rows : List Content → List PictureRow
 picture_rows [] = []
@@ -93,7 +99,7 @@ picture_rows (c ∷ cs) = picture_row c ∷ picture_rows cs
 -- The rows for a table of so many numbers: 1 to 12, "then 13" if it has fewer places, of 30 numbers each, than there are pictures.
 abbrev pub rows_for : ℕ → Found Chunk → Found (List PictureRow)
 rows_for room (found c) =
-    pick (ltb (room / 30) (length (contents_of c))) (refused 13 0)
+    pick (ltb (room / 30) (length (contents_of c))) (refused TableTooShort 0)
     (found (picture_rows (contents_of c)))
 rows_for room (refused k p) = refused k p
 
@@ -123,9 +129,9 @@ table_numbers [] = []
 table_numbers (r ∷ rs) = row_numbers r ++ table_numbers rs
 
 -- what is told, and what stands in the lent table afterwards: "A refusal changes no lent byte or record", and "places beyond left as found"
-abbrev pub table_answer : Found (List PictureRow) → TableAnswer
-table_answer (found rs) = Pictures (length rs)
-table_answer (refused k p) = Refused k p
+abbrev pub table_answer : Found (List PictureRow) → Answer ℕ
+table_answer (found rs) = Ok (length rs)
+table_answer (refused k p) = refusing k p
 
 abbrev pub table_after : Found (List PictureRow) → List ℕ → List ℕ
 table_after (found rs) old = table_numbers rs ++ drop (length (table_numbers rs)) old

@@ -60,38 +60,10 @@ pub struct Picture {
     pub view_mode_from: Origin,
 }
 
-// The picture that was asked for, or the number and place of a refusal.
-#[derive(Clone, Copy)]
-pub enum PictureAnswer {
-    Shown(Picture),
-    Refused { number: usize, place: usize },
-}
-
 // The colour of a pixel or of a palette's entry.
 #[derive(Clone, Copy)]
 pub struct Colour {
     pub red: u8,
     pub green: u8,
     pub blue: u8,
-}
-
-// A scan line's next place, or the number and place of a refusal.
-#[derive(Clone, Copy)]
-pub enum LineAnswer {
-    Next(usize),
-    Refused { number: usize, place: usize },
-}
-
-// The bytes left over after a frame, or the number and place of a refusal.
-#[derive(Clone, Copy)]
-pub enum FrameAnswer {
-    Leftover(usize),
-    Refused { number: usize, place: usize },
-}
-
-// How many pictures a table tells, or the number and place of a refusal.
-#[derive(Clone, Copy)]
-pub enum TableAnswer {
-    Pictures(usize),
-    Refused { number: usize, place: usize },
 }

@@ -2,7 +2,6 @@
 use Rattle.std.specs.Prelude.{ℕ, ◌+◌, ◌-◌, ◌≤◌, ◌≡◌, List, [], ◌∷◌, ltb, length}
 use Rattle.iff_name.specs.Name.{pick}
 use Rattle.iff_chunk.specs.Chunks.{Chunks, group}
-use Rattle.ilbm_spec.specs.declared.TableAnswer.{TableAnswer}
 use Rattle.ilbm_spec.specs.Names.{is_picture}
 use Rattle.ilbm_spec.specs.Contents.{Scope as Shares, scope_inside, Content, content_of, contents_from}
 use Rattle.ilbm_spec.specs.Table.{picture_row, row_numbers, table_of, table_answer, table_after}
@@ -11,6 +10,7 @@ use Rattle.ilbm_locate.specs.declared.Scope.{Scope}
 use Rattle.ilbm_locate.specs.Scopes.{ScopeIs}
 use Rattle.ilbm_locate.specs.Spots.{Opens, contents_here}
 use Rattle.ilbm_table_row.specs.Put.{put_at}
+use Rattle.iff_refusal.specs.Numbers.{Answer}
 
 -- a table, and where its next row goes
 pub record Filled : Type 0 where
@@ -63,5 +63,5 @@ pub record FillsMembers (s : List ℕ) (p e : ℕ) (c : Scope) (t : List ℕ) (n
       filled t' n' ≡ put_rows (contents_from p scope F) (filled t n)
 
 -- the answer, and what stands in the table afterwards
-abbrev pub Answers : List ℕ → List ℕ → TableAnswer → List ℕ → Type 0
+abbrev pub Answers : List ℕ → List ℕ → Answer ℕ → List ℕ → Type 0
 Answers s t r t' = (r ≡ table_answer (table_of s (length t))) × (t' ≡ table_after (table_of s (length t)) t)

@@ -11,13 +11,13 @@ ghost use Rattle.ilbm_find.specs.Seen.{FormIn};
 ghost use Rattle.ilbm_table.specs.Filling.{Keeps, FillsForm, FillsOwn, FillsInside, FillsChunk, FillsMembers, Answers};
 
 use iff_chunk::{name_at, size_at};
+use iff_refusal::{Reason, Refusal};
 use iff_rules::is_section;
-use iff_tree::{Verdict, check};
+use iff_tree::check;
 use ilbm_count::count_sound;
 use ilbm_locate::{Scope, inner_scope, none_shared};
 use ilbm_members::sibling_at;
 use ilbm_names::is_picture;
-use ilbm_spec::TableAnswer;
 use ilbm_table_row::put_picture;
 
 // The row of the FORM at q, if there is room for it. Returns where the next row goes.
@@ -99,34 +99,24 @@ fn fill(s: &[u8], p: usize, e: usize, scope: Scope, table: &mut [usize], at: usi
 }
 
 // The table of a sound file that ends at a place: 13 if it has fewer places than there are pictures.
-fn fill_sound(s: &[u8], end: usize, table: &mut [usize]) -> TableAnswer
+fn fill_sound(s: &[u8], end: usize, table: &mut [usize]) -> Result<usize, Refusal>
     requires { Sound s.now end }
     ensures { Answers s.now table.old result table.new }
 {
     let pictures = count_sound(s, end);
     if table.len() / 30 < pictures {
-        return TableAnswer::Refused {
-            number: 13,
-            place: 0,
-        };
+        return Err(Reason::TableTooShort.at(0));
     }
     fill(s, 0, end, none_shared(), table, 0);
-    TableAnswer::Pictures(pictures)
+    Ok(pictures)
 }
 
 // Fills the table with the pictures of any bytes, 30 numbers to a picture; a refusal leaves it as it was.
-pub fn fill_table(s: &[u8], table: &mut [usize]) -> TableAnswer
+pub fn fill_table(s: &[u8], table: &mut [usize]) -> Result<usize, Refusal>
     ensures answer { result ≡ table_answer (table_of s.now (length table.old)) }
     ensures numbers { table.new
         ≡ table_after (table_of s.now (length table.old)) table.old }
 {
-    let v = check(s);
-    match v {
-        Verdict::Accepted {
-            chunks: _,
-            end,
-            trailing: _,
-        } => fill_sound(s, end, table),
-        Verdict::Refused { number, place } => TableAnswer::Refused { number, place },
-    }
+    let accepted = check(s)?;
+    fill_sound(s, accepted.end, table)
 }

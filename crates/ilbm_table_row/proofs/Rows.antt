@@ -2,36 +2,33 @@
 -- beside a refusal nothing is held, and every number is 0.
 use Prim.Native.Nat.{ℕ, ◌+◌, ◌≤◌}
 use mathlib.Core.Path.{◌≡◌, refl, ap, ap₂, ◌∙◌}
-use mathlib.Core.Bool.{Bool, true, false}
 use mathlib.Core.List.{List, [], ◌∷◌, ◌++◌}
-use lib.Dec.{eqb}
 use lib.ListN.{length}
 use native.Mathlib.Omega.{arith}
-use Rattle.iff_name.specs.Name.{pick}
 use Rattle.iff_chunk.specs.Chunks.{Chunks}
 use Rattle.iff_tree.specs.Judge.{found, refused}
 use Rattle.ilbm_spec.specs.declared.BitmapHeader.{BitmapHeader}
 use Rattle.ilbm_spec.specs.Names.{ILBM}
 use Rattle.ilbm_spec.specs.Contents.{Located, Property, Scope as Shares, Content, content_of}
-use Rattle.ilbm_spec.specs.Pictures.{picture_refusal, judged}
+use Rattle.ilbm_spec.specs.Pictures.{picture_refusal, passing, judged}
 use Rattle.ilbm_spec.specs.Table.{origin_number, shared_place, property_row, body_row, picture_row, property_numbers, body_numbers, row_numbers}
 use Rattle.ilbm_members.specs.Gathers.{first_of}
 use Rattle.ilbm_locate.specs.declared.Scope.{Scope}
 use Rattle.ilbm_locate.specs.Scopes.{ScopeIs}
 use Rattle.ilbm_locate.specs.Spots.{Opens}
-use Rattle.ilbm_content.specs.declared.Part.{Part}
-use Rattle.ilbm_content.specs.declared.Part.TheVariants.{Nothing, Between}
 use Rattle.ilbm_content.specs.declared.Held.{Held}
 use Rattle.ilbm_content.specs.declared.Contents.{Contents}
 use Rattle.ilbm_content.specs.Held.{Shows, HeldIs, ContentsAre}
 use Rattle.ilbm_content.proofs.Laws.{origin_is}
 use Rattle.ilbm_numbers.specs.Parts.{from_of, to_of}
 use Rattle.ilbm_numbers.proofs.Laws.{part_extent, held_extent}
-use Rattle.ilbm_find.specs.declared.View.{View}
-use Rattle.ilbm_find.specs.declared.View.TheVariants.{Seen, Refused as View-refused}
 use Rattle.ilbm_find.specs.Seen.{ViewIs, FormView}
 use Rattle.ilbm_table_row.specs.Put.{put_at, held_numbers, there_of, part_numbers, parts_numbers, no_parts, PutsPicture}
 use Rattle.ilbm_table_row.proofs.Put.{put_more}
+use Rattle.iff_refusal.specs.declared.Reason.{Reason}
+use Rattle.iff_refusal.specs.declared.Refusal.{Refusal}
+use Rattle.iff_refusal.specs.Numbers.{number_of, Answer}
+use Rattle.std.specs.Prelude.{Result, Ok, Err, Some, None, Option}
 
 -- what is put behind numbers just put
 then_put :
@@ -46,7 +43,7 @@ module _ (at : ℕ) (t t₁ : List ℕ) where
   property_put h a b c d i j k l e = rw (← i, ← j, ← k, ← l) e
 
   pub body_put :
-      (p : Part) (a b c : ℕ) → a ≡ there_of p → b ≡ from_of p → c ≡ to_of p → t₁ ≡ put_at at (a ∷ b ∷ c ∷ []) t →
+      (p : Option (ℕ × ℕ)) (a b c : ℕ) → a ≡ there_of p → b ≡ from_of p → c ≡ to_of p → t₁ ≡ put_at at (a ∷ b ∷ c ∷ []) t →
       t₁ ≡ put_at at (part_numbers p) t
   body_put p a b c i j k e = rw (← i, ← j, ← k) e
 
@@ -74,11 +71,11 @@ module _ (at : ℕ) (t t₁ : List ℕ) where
 held_numbers_lem : (s : List ℕ) (h : Held) (q : Property) → HeldIs s h q → held_numbers h ≡ property_numbers (property_row q)
 held_numbers_lem s h q k = let e = held_extent s h q k in rw (origin_is s h q k, e.0, e.1)
 
-body_numbers_lem : (s : List ℕ) (p : Part) (bodies : List Located) → Shows s p (first_of bodies) → part_numbers p ≡ body_numbers (body_row bodies)
-body_numbers_lem s Nothing [] w = refl
-body_numbers_lem s Nothing (x ∷ xs) w = absurd w
-body_numbers_lem s (Between a b) [] w = absurd w
-body_numbers_lem s (Between a b) (x ∷ xs) w = let e = part_extent s (Between a b) x w in rw (e.0, e.1)
+body_numbers_lem : (s : List ℕ) (p : Option (ℕ × ℕ)) (bodies : List Located) → Shows s p (first_of bodies) → part_numbers p ≡ body_numbers (body_row bodies)
+body_numbers_lem s None [] w = refl
+body_numbers_lem s None (x ∷ xs) w = absurd w
+body_numbers_lem s (Some (a, b)) [] w = absurd w
+body_numbers_lem s (Some (a, b)) (x ∷ xs) w = let e = part_extent s (Some (a, b)) x w in rw (e.0, e.1)
 
 -- a property's numbers before the rest
 held_before :
@@ -86,7 +83,7 @@ held_before :
     held_numbers h ++ xs ≡ property_numbers (property_row q) ++ ys
 held_before s h q k xs ys e = ap₂ (λ (a b : List ℕ). a ++ b) (held_numbers_lem s h q k) e
 
-parts_numbers_lem : (s : List ℕ) (c : Contents) (x : Content) → ContentsAre s c x → picture_refusal x ≡ 0 →
+parts_numbers_lem : (s : List ℕ) (c : Contents) (x : Content) → ContentsAre s c x → picture_refusal x ≡ Ok tt →
     (0 ∷ x.place ∷ ILBM ∷ []) ++ parts_numbers c ≡ row_numbers (picture_row x)
 unfolding row_numbers picture_row
 parts_numbers_lem s c x w e =
@@ -101,42 +98,40 @@ parts_numbers_lem s c x w e =
 
 -- which content is judged, and what of it is told beside a refusal
 judged_found : (x y : Content) → judged x ≡ found y → y ≡ x
-judged_found x y e = go (eqb (picture_refusal x) 0) e
+judged_found x y e = go (picture_refusal x) e
   where
-    go : (b : Bool) → pick b (found x) (refused (picture_refusal x) 0) ≡ found y → y ≡ x
-    go true e = cc
-    go false e = absurd (let z : ◌≡◌ {A = ℕ} 0 1 = cc in omega arith)
+    go : (r : Result (Unit {0}) Reason) → passing r (found x) ≡ found y → y ≡ x
+    go (Ok u) e = cc
+    go (Err n) e = absurd (let z : ◌≡◌ {A = ℕ} 0 1 = cc in omega arith)
 
-refused_numbers : (x : Content) (k p : ℕ) → judged x ≡ refused k p →
-    (k ∷ x.place ∷ ILBM ∷ []) ++ parts_numbers no_parts ≡ row_numbers (picture_row x)
+refused_numbers : (x : Content) (k : Reason) (p : ℕ) → judged x ≡ refused k p →
+    (number_of k ∷ x.place ∷ ILBM ∷ []) ++ parts_numbers no_parts ≡ row_numbers (picture_row x)
 unfolding row_numbers picture_row
-refused_numbers x k p e = go (picture_refusal x) (eqb (picture_refusal x) 0) refl refl e
+refused_numbers x k p e = rw (go (picture_refusal x) e)
   where
-    go :
-        (n : ℕ) (b : Bool) → n ≡ picture_refusal x → b ≡ eqb (picture_refusal x) 0 → pick b (found x) (refused n 0) ≡ refused k p →
-        (k ∷ x.place ∷ ILBM ∷ []) ++ parts_numbers no_parts ≡ row_numbers (picture_row x)
-    go n true i j e = absurd (let z : ◌≡◌ {A = ℕ} 0 1 = cc in omega arith)
-    go n false i j e = let m : n ≡ k = cc in rw (← j, ← i, m)
+    go : (r : Result (Unit {0}) Reason) → passing r (found x) ≡ refused k p → r ≡ Err k
+    go (Ok u) e = absurd (let z : ◌≡◌ {A = ℕ} 0 1 = cc in omega arith)
+    go (Err n) e = cc
 
-module _ (s : List ℕ) (form : ℕ) (p : Scope) (v : View) (w : FormView s form p v) (at : ℕ) (t t₁ : List ℕ) where
-  pub seen_put : (c : Contents) (h : BitmapHeader) → v ≡ Seen c h → t₁ ≡ put_at at ((0 ∷ form ∷ ILBM ∷ []) ++ parts_numbers c) t →
+module _ (s : List ℕ) (form : ℕ) (p : Scope) (v : Answer (Contents × BitmapHeader)) (w : FormView s form p v) (at : ℕ) (t t₁ : List ℕ) where
+  pub seen_put : (c : Contents) (h : BitmapHeader) → v ≡ Ok (c, h) → t₁ ≡ put_at at ((0 ∷ form ∷ ILBM ∷ []) ++ parts_numbers c) t →
       PutsPicture s form p at t t₁
   seen_put c h i e = record { at = go }
     where
       go : (G : Chunks) (scope : Shares) → Opens s form G → ScopeIs s p scope →
           t₁ ≡ put_at at (row_numbers (picture_row (content_of form G scope))) t
       go G scope o k =
-          let y : ViewIs s (Seen c h) (judged (content_of form G scope)) = rw i at (w.at G scope o k) in
+          let y : ViewIs s (Ok (c, h)) (judged (content_of form G scope)) = rw i at (w.at G scope o k) in
           let j = judged_found (content_of form G scope) y.0 y.1 in
           rw (← parts_numbers_lem s c (content_of form G scope) (rw j at y.2.parts) (rw j at y.2.sound)) e
 
-  pub refused_put : (n q : ℕ) (c : Contents) → v ≡ View-refused n q → c ≡ no_parts →
+  pub refused_put : (r : Refusal) (n : ℕ) (c : Contents) → v ≡ Err r → n ≡ number_of r.reason → c ≡ no_parts →
       t₁ ≡ put_at at ((n ∷ form ∷ ILBM ∷ []) ++ parts_numbers c) t → PutsPicture s form p at t t₁
-  refused_put n q c i j e = record { at = go }
+  refused_put r n c i m j e = record { at = go }
     where
       go : (G : Chunks) (scope : Shares) → Opens s form G → ScopeIs s p scope →
           t₁ ≡ put_at at (row_numbers (picture_row (content_of form G scope))) t
       go G scope o k =
-          let y : judged (content_of form G scope) ≡ refused n q = rw i at (w.at G scope o k) in
-          let z : t₁ ≡ put_at at ((n ∷ form ∷ ILBM ∷ []) ++ parts_numbers no_parts) t = rw j at e in
-          rw (← refused_numbers (content_of form G scope) n q y) z
+          let y : judged (content_of form G scope) ≡ refused r.reason r.place = rw i at (w.at G scope o k) in
+          let z : t₁ ≡ put_at at ((number_of r.reason ∷ form ∷ ILBM ∷ []) ++ parts_numbers no_parts) t = rw (m, j) at e in
+          rw (← refused_numbers (content_of form G scope) r.reason r.place y) z

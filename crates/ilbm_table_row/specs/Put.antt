@@ -7,11 +7,10 @@ use Rattle.ilbm_spec.specs.Table.{origin_number, shared_place, picture_row, row_
 use Rattle.ilbm_locate.specs.declared.Scope.{Scope}
 use Rattle.ilbm_locate.specs.Scopes.{ScopeIs}
 use Rattle.ilbm_locate.specs.Spots.{Opens}
-use Rattle.ilbm_content.specs.declared.Part.{Part}
-use Rattle.ilbm_content.specs.declared.Part.TheVariants.{Nothing, Between}
 use Rattle.ilbm_content.specs.declared.Held.{Held}
 use Rattle.ilbm_content.specs.declared.Contents.{Contents}
 use Rattle.ilbm_numbers.specs.Parts.{from_of, to_of}
+use Rattle.std.specs.Prelude.{Some, None, Option}
 
 -- a table after numbers are put into it from a place on, and what was there before them and behind them
 unfoldable pub put_at : ℕ → List ℕ → List ℕ → List ℕ
@@ -23,11 +22,11 @@ put_at (suc n) xs (y ∷ t) = y ∷ put_at n xs t
 abbrev pub held_numbers : Held → List ℕ
 held_numbers h = origin_number h.origin ∷ shared_place h.origin ∷ from_of h.part ∷ to_of h.part ∷ []
 
-abbrev pub there_of : Part → ℕ
-there_of Nothing = 0
-there_of (Between a b) = 1
+abbrev pub there_of : Option (ℕ × ℕ) → ℕ
+there_of None = 0
+there_of (Some (a, b)) = 1
 
-abbrev pub part_numbers : Part → List ℕ
+abbrev pub part_numbers : Option (ℕ × ℕ) → List ℕ
 part_numbers p = there_of p ∷ from_of p ∷ to_of p ∷ []
 
 abbrev pub parts_numbers : Contents → List ℕ
@@ -40,7 +39,7 @@ parts_numbers c =
     (held_numbers c.camg ++ part_numbers c.body)))))
 
 abbrev pub nothing_held : Held
-nothing_held = record { part = Nothing; origin = Absent }
+nothing_held = record { part = None; origin = Absent }
 
 abbrev pub no_parts : Contents
 no_parts =
@@ -52,7 +51,7 @@ no_parts =
       sprt = nothing_held;
       camg = nothing_held;
       bodies = 0;
-      body = Nothing;
+      body = None;
     }
 
 -- the row of the picture in the FORM at a place is put into the table

@@ -6,8 +6,8 @@ ghost use Rattle.ilbm_spec.specs.Names.{ILBM as ILBM-code};
 ghost use Rattle.ilbm_find.specs.Seen.{FormIn};
 ghost use Rattle.ilbm_table_row.specs.Put.{put_at, held_numbers, there_of, part_numbers, parts_numbers, no_parts, PutsPicture};
 
-use ilbm_content::{Contents, Held, Part};
-use ilbm_find::{View, view_form};
+use ilbm_content::{Contents, Held};
+use ilbm_find::view_form;
 use ilbm_locate::Scope;
 use ilbm_names::ILBM;
 use ilbm_numbers::{origin_number, part_from, part_to, shared_place};
@@ -35,15 +35,13 @@ fn put_property(table: &mut [usize], at: usize, h: Held)
     requires { at + 4 ≤ length table.old }
     ensures { table.new ≡ put_at at (held_numbers h) table.old }
 {
-    let origin = h.origin;
-    let part = h.part;
     put_four(
         table,
         at,
-        origin_number(origin),
-        shared_place(origin),
-        part_from(part),
-        part_to(part),
+        origin_number(h.origin),
+        shared_place(h.origin),
+        part_from(h.part),
+        part_to(h.part),
     );
 }
 
@@ -55,17 +53,17 @@ fn put_two(table: &mut [usize], at: usize, one: Held, other: Held)
     put_property(table, at + 4, other);
 }
 
-fn is_there(part: Part) -> usize
+fn is_there(part: Option<(usize, usize)>) -> usize
     ensures { result ≡ there_of part }
 {
     match part {
-        Part::Nothing => 0,
-        Part::Between(_, _) => 1,
+        None => 0,
+        Some((_, _)) => 1,
     }
 }
 
 // The BODY: whether there is one, and where its data lies.
-fn put_body(table: &mut [usize], at: usize, body: Part)
+fn put_body(table: &mut [usize], at: usize, body: Option<(usize, usize)>)
     requires { at + 3 ≤ length table.old }
     ensures { table.new ≡ put_at at (part_numbers body) table.old }
 {
@@ -77,17 +75,10 @@ fn put_parts(table: &mut [usize], at: usize, c: Contents)
     requires { at + 27 ≤ length table.old }
     ensures { table.new ≡ put_at at (parts_numbers c) table.old }
 {
-    let bmhd = c.bmhd;
-    let cmap = c.cmap;
-    let grab = c.grab;
-    let dest = c.dest;
-    let sprt = c.sprt;
-    let camg = c.camg;
-    let body = c.body;
-    put_two(table, at, bmhd, cmap);
-    put_two(table, at + 8, grab, dest);
-    put_two(table, at + 16, sprt, camg);
-    put_body(table, at + 24, body);
+    put_two(table, at, c.bmhd, c.cmap);
+    put_two(table, at + 8, c.grab, c.dest);
+    put_two(table, at + 16, c.sprt, c.camg);
+    put_body(table, at + 24, c.body);
 }
 
 // Nothing of a picture: what is told beside its refusal.
@@ -95,7 +86,7 @@ fn no_parts() -> Contents
     ensures { result ≡ no_parts }
 {
     let none = Held {
-        part: Part::Nothing,
+        part: None,
         origin: Origin::Absent,
     };
     Contents {
@@ -106,7 +97,7 @@ fn no_parts() -> Contents
         sprt: none,
         camg: none,
         bodies: 0,
-        body: Part::Nothing,
+        body: None,
     }
 }
 
@@ -124,9 +115,8 @@ pub fn put_picture(s: &[u8], form: usize, scope: Scope, table: &mut [usize], at:
     requires { (FormIn s.now form scope) × (at + 30 ≤ length table.old) }
     ensures { PutsPicture s.now form scope at table.old table.new }
 {
-    let v = view_form(s, form, scope);
-    match v {
-        View::Seen(c, _) => put_row(table, at, 0, form, c),
-        View::Refused(number, _) => put_row(table, at, number, form, no_parts()),
+    match view_form(s, form, scope) {
+        Ok((c, _)) => put_row(table, at, 0, form, c),
+        Err(r) => put_row(table, at, r.reason.number(), form, no_parts()),
     }
 }

@@ -1,15 +1,14 @@
--- Triples made one after the other: the first i of an array are those of the first i numbers, and at the end all are.
-use Prim.Native.Nat.{ℕ, zero, suc, ◌+◌, ◌<◌, ◌≤◌}
-use mathlib.Core.Path.{◌≡◌, refl, sym, ap, ◌∙◌}
-use mathlib.Core.Bool.{Bool}
+-- Triples made one after the other: the first i of an array are those of the first i numbers.
+use Prim.Native.Nat.{ℕ, zero, suc, ◌+◌, ◌<◌}
+use mathlib.Core.Path.{◌≡◌, refl, ap}
 use mathlib.Core.List.{List, [], ◌∷◌, ◌++◌}
 use lib.ListN.{length, take, set}
-use lib.Seq.{take-suc-set, take_all}
+use lib.Seq.{take-suc-set}
 use native.Mathlib.Numerals.{add-one}
 use native.Mathlib.Omega.{arith}
 use Rattle.ilbm_spec.specs.declared.Colour.{Colour}
-use Rattle.ilbm_spec.specs.Colours.{colour_bytes, is_half_bright, number_colour}
-use Rattle.ilbm_spec.specs.Triples.{triples_from, triples_by}
+use Rattle.ilbm_spec.specs.Colours.{colour_bytes}
+use Rattle.ilbm_spec.specs.Triples.{triples_from}
 
 -- one more number
 triples_last : (i n : ℕ) (f : ℕ → Colour) → triples_from i (suc n) f ≡ triples_from i n f ++ (colour_bytes (f (i + n)) ∷ [])
@@ -32,14 +31,3 @@ module _ (f : ℕ → Colour) where
     made_more c l e =
         let z : 0 + i ≡ i = omega arith in
         record { is = rw (add-one, take-suc-set triples i (colour_bytes c) l, m.is, triples_last 0 i f, z, e) }
-
-    all_made : length triples ≡ 64 → i ≤ 64 → 64 ≤ i → triples ≡ triples_from 0 64 f
-    all_made l a b =
-        let e : i ≡ 64 = omega arith in
-        let t : take 64 triples ≡ triples_from 0 64 f = rw e at m.is in
-        sym (take_all 64 triples (omega arith)) ∙ t
-
-pub triples_made :
-    (mode planes : ℕ) (palette : List ℕ) (half : Bool) → half ≡ is_half_bright mode planes → (i : ℕ) (triples : List (List ℕ)) →
-    Made (number_colour half palette) i triples → length triples ≡ 64 → i ≤ 64 → 64 ≤ i → triples ≡ triples_by mode planes palette
-triples_made mode planes palette half e i triples m l a b = rw (← e) (all_made (number_colour half palette) i triples m l a b)

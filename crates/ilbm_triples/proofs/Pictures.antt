@@ -9,13 +9,14 @@ use Rattle.ilbm_spec.specs.declared.BitmapHeader.{BitmapHeader}
 use Rattle.ilbm_spec.specs.Pictures.{view_of}
 use Rattle.ilbm_spec.specs.Triples.{Triples, triples_by, triples_of}
 use Rattle.ilbm_content.specs.declared.Contents.{Contents}
-use Rattle.ilbm_find.specs.declared.View.{View}
-use Rattle.ilbm_find.specs.declared.View.TheVariants.{Seen, Refused as View-refused}
 use Rattle.ilbm_find.specs.Seen.{ViewIs, Judged}
 use Rattle.ilbm_properties.specs.Fields.{LongIs}
 use Rattle.ilbm_cmap.specs.Parts.{PartIn, part_or}
 use Rattle.ilbm_cmap.proofs.PaletteLaws.{part_is, part_in}
 use Rattle.ilbm_triples.specs.Done.{TriplesAre}
+use Rattle.iff_refusal.specs.declared.Refusal.{Refusal}
+use Rattle.iff_refusal.specs.Numbers.{Answer}
+use Rattle.std.specs.Prelude.{Ok, Err, Option, Some, None}
 
 module _ (s : List ℕ) (c : Contents) (h : BitmapHeader) where
   pub palette_inside : Judged s c h → PartIn s c.cmap.part
@@ -34,13 +35,14 @@ module _ (s : List ℕ) (c : Contents) (h : BitmapHeader) where
             cc;
       }
 
-module _ (s : List ℕ) (i : ℕ) (default : List ℕ) (v : View) (w : ViewIs s v (view_of s i)) where
-  abbrev told : ℕ → ℕ → List (List ℕ) → Triples
-  told k p t = record { number = k; place = p; triples = t }
+module _ (s : List ℕ) (i : ℕ) (default : List ℕ) (v : Answer (Contents × BitmapHeader)) (w : ViewIs s v (view_of s i)) where
+  abbrev told : Option Refusal → List (List ℕ) → Triples
+  told k t = record { refusal = k; triples = t }
 
   pub triples_seen :
-      (c : Contents) (h : BitmapHeader) (r : List (List ℕ)) → v ≡ Seen c h → TriplesAre s c h default r → told 0 0 r ≡ triples_of s i default
-  triples_seen c h r j t = let x : ViewIs s (Seen c h) (view_of s i) = rw j at w in rw x.1 (ap (told 0 0) (t.at x.0 x.2))
+      (c : Contents) (h : BitmapHeader) (r : List (List ℕ)) → v ≡ Ok (c, h) → TriplesAre s c h default r →
+      told None r ≡ triples_of s i default
+  triples_seen c h r j t = let x : ViewIs s (Ok (c, h)) (view_of s i) = rw j at w in rw x.1 (ap (told None) (t.at x.0 x.2))
 
-  pub triples_refused : (k p : ℕ) → v ≡ View-refused k p → told k p (replicate 64 (0 ∷ 0 ∷ 0 ∷ [])) ≡ triples_of s i default
-  triples_refused k p j = let x : view_of s i ≡ refused k p = rw j at w in rw x
+  pub triples_refused : (r : Refusal) → v ≡ Err r → told (Some r) (replicate 64 (0 ∷ 0 ∷ 0 ∷ [])) ≡ triples_of s i default
+  triples_refused r j = let x : view_of s i ≡ refused r.reason r.place = rw j at w in rw x

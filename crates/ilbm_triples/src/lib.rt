@@ -6,9 +6,10 @@ ghost use Rattle.ilbm_spec.specs.Triples.{triples_by, triples_of};
 ghost use Rattle.ilbm_find.specs.Seen.{Judged};
 ghost use Rattle.ilbm_triples.specs.Done.{TriplesAre};
 
+use iff_refusal::Refusal;
 use ilbm_cmap::part_or_default;
 use ilbm_content::Contents;
-use ilbm_find::{View, view_picture};
+use ilbm_find::view_picture;
 use ilbm_palette_colours::{is_half_bright, number_colour};
 use ilbm_properties::view_mode;
 use ilbm_spec::BitmapHeader;
@@ -19,11 +20,9 @@ pub fn palette_triples(palette: &[u8], planes: u8, mode: u32) -> [[u8; 3]; 64]
 {
     let half = is_half_bright(mode, planes);
     let mut triples = [[0; 3]; 64];
-    let mut i = 0;
-    while i < 64 {
+    for i in 0..64 {
         let c = number_colour(half, palette, i as u8);
         triples[i] = [c.red, c.green, c.blue];
-        i += 1;
     }
     triples
 }
@@ -38,36 +37,30 @@ fn picture_triples<'a>(
     requires { Judged s.now c header }
     ensures { TriplesAre s.now c header default.now result }
 {
-    let cmap = c.cmap;
-    let part = cmap.part;
-    let camg = c.camg;
-    let mode = view_mode(s, camg);
-    let palette = part_or_default(s, part, default);
+    let mode = view_mode(s, c.camg);
+    let palette = part_or_default(s, c.cmap.part, default);
     palette_triples(palette, header.planes, mode)
 }
 
-// The triples of picture i, with 0 and 0; all 0 after a refusal, with its number and place.
-pub fn triples<'a>(
-    s: &'a [u8],
-    i: usize,
-    default: &'a [u8],
-    number: &mut usize,
-    place: &mut usize,
-) -> [[u8; 3]; 64]
-    ensures { record { number = number.exit.now; place = place.new; triples = result }
-        ≡ triples_of s.now i default.now }
+// The triples that were asked for, and a refusal, if any; with it all are 0.
+#[derive(Clone, Copy)]
+pub struct PaletteTriples {
+    pub refusal: Option<Refusal>,
+    pub triples: [[u8; 3]; 64],
+}
+
+// The triples of picture i.
+pub fn triples<'a>(s: &'a [u8], i: usize, default: &'a [u8]) -> PaletteTriples
+    ensures { record { refusal = result.refusal; triples = result.triples } ≡ triples_of s.now i default.now }
 {
-    let v = view_picture(s, i);
-    match v {
-        View::Seen(c, header) => {
-            *number = 0;
-            *place = 0;
-            picture_triples(s, c, header, default)
-        }
-        View::Refused(n, p) => {
-            *number = n;
-            *place = p;
-            [[0; 3]; 64]
-        }
+    match view_picture(s, i) {
+        Ok((c, header)) => PaletteTriples {
+            refusal: None,
+            triples: picture_triples(s, c, header, default),
+        },
+        Err(r) => PaletteTriples {
+            refusal: Some(r),
+            triples: [[0; 3]; 64],
+        },
     }
 }

@@ -3,11 +3,13 @@ use Rattle.std.specs.Prelude.{ℕ, ◌<◌, ◌≡◌, List, [], leb}
 use Rattle.iff_name.specs.Name.{pick}
 use Rattle.iff_chunk.specs.Chunks.{Chunk, before, none, count}
 use Rattle.iff_tree.specs.Judge.{Found, found, refused}
-use Rattle.iff_tree.specs.declared.Verdict.{Verdict}
-use Rattle.iff_tree.specs.declared.Verdict.TheVariants.{Accepted, Refused}
 use Rattle.list_spec.specs.declared.Record.{Record}
 use Rattle.list_spec.specs.Records.{records_of, count_of}
 use Rattle.list_cursor.specs.Cursors.{first_cursor, Located}
+use Rattle.iff_refusal.specs.declared.Reason.TheVariants.{TableTooShort}
+use Rattle.iff_refusal.specs.Numbers.{Answer, refusing}
+use Rattle.iff_tree.specs.declared.Accepted.{Accepted}
+use Rattle.std.specs.Prelude.{Ok, Err}
 
 -- the records of a file, none if it is refused
 abbrev pub records_in : Found Chunk → List Record
@@ -20,14 +22,14 @@ records_for m (found c) = pick (leb (count (before c none)) m) (records_of c) []
 records_for m (refused k p) = []
 
 -- "13: accepted, but the lent table has fewer places than chunks"; "1 to 12 come before 13"
-abbrev pub answer_of : ℕ → Verdict → Verdict
-answer_of m (Accepted n e t) = pick (leb n m) (Accepted n e t) (Refused 13 0)
-answer_of m (Refused k p) = Refused k p
+abbrev pub answer_of : ℕ → Answer Accepted → Answer Accepted
+answer_of m (Ok v) = pick (leb v.chunks m) (Ok v) (refusing TableTooShort 0)
+answer_of m (Err r) = Err r
 
 -- how many records an answer puts into the table: none with a refusal
-abbrev pub to_put : Verdict → ℕ
-to_put (Accepted n e t) = n
-to_put (Refused k p) = 0
+abbrev pub to_put : Answer Accepted → ℕ
+to_put (Ok v) = v.chunks
+to_put (Err r) = 0
 
 -- Where n records are to be put, the file has n, and the cursor can go through them.
 abbrev pub Ready : List ℕ → ℕ → Type 0

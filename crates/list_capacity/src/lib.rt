@@ -5,48 +5,27 @@ ghost use Rattle.std.specs.Prelude.{◌≡◌};
 ghost use Rattle.iff_tree.specs.Judge.{check_of};
 ghost use Rattle.list_capacity.specs.Capacity.{answer_of, to_put, Ready};
 
-use iff_tree::Verdict;
+use iff_refusal::{Reason, Refusal};
+use iff_tree::Accepted;
 
 // The answer for a table of m places: the check's, or 13 if the file has more chunks.
-pub fn answer(s: &[u8], m: usize) -> Verdict
+#[tactic(auto, using(crate::proofs::RoomLaws::accepted_ready))]
+pub fn answer(s: &[u8], m: usize) -> Result<Accepted, Refusal>
     ensures { (result ≡ answer_of m (check_of s.now)) × (Ready s.now (to_put result)) }
 {
-    let v = iff_tree::check(s);
-    match v {
-        Verdict::Accepted {
-            chunks,
-            end,
-            trailing,
-        } => {
-            if m < chunks {
-                return Verdict::Refused {
-                    number: 13,
-                    place: 0,
-                };
-            }
-            Verdict::Accepted {
-                chunks,
-                end,
-                trailing,
-            }
-        }
-        Verdict::Refused { number, place } => Verdict::Refused { number, place },
+    let accepted = iff_tree::check(s)?;
+    if m < accepted.chunks {
+        return Err(Reason::TableTooShort.at(0));
     }
+    Ok(accepted)
 }
 
 // How many records an answer puts into the table.
-pub fn to_put(v: Verdict) -> usize
+pub fn to_put(v: Result<Accepted, Refusal>) -> usize
     ensures { result ≡ to_put v }
 {
     match v {
-        Verdict::Accepted {
-            chunks,
-            end: _,
-            trailing: _,
-        } => chunks,
-        Verdict::Refused {
-            number: _,
-            place: _,
-        } => 0,
+        Ok(accepted) => accepted.chunks,
+        Err(_) => 0,
     }
 }

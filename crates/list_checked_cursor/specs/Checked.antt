@@ -3,10 +3,12 @@
 use Rattle.std.specs.Prelude.{ℕ, ◌+◌, ◌%◌, Bool, false, List, leb, length}
 use Rattle.iff_name.specs.Name.{pick}
 use Rattle.iff_chunk.specs.Chunks.{word}
-use Rattle.list_spec.specs.declared.Listed.{Listed}
-use Rattle.list_spec.specs.declared.Listed.TheVariants.{Chunk as Listed-chunk, Refused}
 use Rattle.list_cursor.specs.declared.Cursor.{Cursor}
 use Rattle.list_cursor.specs.Cursors.{record_at, group_at, onward_at}
+use Rattle.iff_refusal.specs.declared.Reason.TheVariants.{NoRecord}
+use Rattle.iff_refusal.specs.Numbers.{Answer, refusing}
+use Rattle.list_spec.specs.declared.Record.{Record}
+use Rattle.std.specs.Prelude.{Ok}
 
 -- A group of level l and size z at p lies in a file of n bytes, at a level that a group can have.
 abbrev pub group_lies : ℕ → ℕ → ℕ → ℕ → Bool
@@ -29,8 +31,8 @@ lies_at s cur =
     (pick (leb (cur.place + 8) (length s)) (kind_lies s cur (group_at s cur)) false) false) false
 
 -- the record of the chunk there
-abbrev pub read_at : List ℕ → Cursor → Listed
-read_at s cur = pick (lies_at s cur) (Listed-chunk (record_at s cur.level cur.number cur.place)) (Refused 14 0)
+abbrev pub read_at : List ℕ → Cursor → Answer Record
+read_at s cur = pick (lies_at s cur) (Ok (record_at s cur.level cur.number cur.place)) (refusing NoRecord 0)
 
 -- where the cursor goes: it stays where no chunk lies
 abbrev pub moved_at : List ℕ → Cursor → Cursor

@@ -4,8 +4,9 @@
 ghost use Rattle.std.specs.Prelude.{◌≡◌, ◌≤◌, ◌<◌};
 ghost use Rattle.list_checked_cursor.specs.Checked.{group_lies, plain_lies, lies_at, read_at, moved_at};
 
+use iff_refusal::{Reason, Refusal};
 use list_cursor::Cursor;
-use list_spec::Listed;
+use list_spec::Record;
 
 // Whether a group of level l and size z at p lies in a file of n bytes, at a level that a group can have.
 fn group_lies(n: usize, p: usize, l: usize, z: usize) -> bool
@@ -68,16 +69,13 @@ pub fn lies_at(s: &[u8], cur: Cursor) -> bool
 }
 
 // The record that the header at a cursor gives, which may be any; 14 where no chunk lies.
-pub fn read_at(s: &[u8], cur: Cursor) -> Listed
+pub fn read_at(s: &[u8], cur: Cursor) -> Result<Record, Refusal>
     ensures { result ≡ read_at s.now cur }
 {
     if lies_at(s, cur) {
-        return Listed::Chunk(list_cursor::header_at(s, cur));
+        return Ok(list_cursor::header_at(s, cur));
     }
-    Listed::Refused {
-        number: 14,
-        place: 0,
-    }
+    Err(Reason::NoRecord.at(0))
 }
 
 // The cursor at the next chunk, from any cursor; the same cursor where no chunk lies.

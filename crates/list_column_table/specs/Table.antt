@@ -1,9 +1,10 @@
 -- 01 "Listing": "a lent table of records, one per chunk, is filled in order, places beyond left as found", as one column for each field.
 use Rattle.std.specs.Prelude.{ℕ, min, ◌≡◌, List, length}
 use Rattle.iff_tree.specs.Judge.{read_file, check_of}
-use Rattle.iff_tree.specs.declared.Verdict.{Verdict}
 use Rattle.list_capacity.specs.Capacity.{records_for, answer_of}
 use Rattle.list_columns.specs.Columns.{record_number, level_of, kind_number_of, name_of, record_place, size_of, column}
+use Rattle.iff_refusal.specs.Numbers.{Answer}
+use Rattle.iff_tree.specs.declared.Accepted.{Accepted}
 
 -- A table has as many places as its shortest column.
 abbrev pub room_of : List ℕ → List ℕ → List ℕ → List ℕ → List ℕ → List ℕ → ℕ
@@ -11,7 +12,7 @@ room_of a b c d e f = min (min (min (length a) (length b)) (min (length c) (leng
 
 -- What a table of m places holds for the file s, and the answer r: each column as it was and as it is.
 pub record Filled
-    (m : ℕ) (s : List ℕ) (r : Verdict)
+    (m : ℕ) (s : List ℕ) (r : Answer Accepted)
     (numbers₀ levels₀ kinds₀ names₀ places₀ sizes₀ numbers levels kinds names places sizes : List ℕ)
     : Type 0 where
   pub answer : r ≡ answer_of m (check_of s)

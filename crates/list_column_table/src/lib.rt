@@ -3,7 +3,8 @@
 
 ghost use Rattle.list_column_table.specs.Table.{room_of, Filled};
 
-use iff_tree::Verdict;
+use iff_refusal::Refusal;
+use iff_tree::Accepted;
 
 // Fills a table with the records of a file: the check's answer, or 13 if the table has fewer places than the file has chunks. Any
 // refusal leaves the table as it was.
@@ -15,7 +16,7 @@ pub fn fill_table(
     names: &mut [u32],
     places: &mut [usize],
     sizes: &mut [usize],
-) -> Verdict
+) -> Result<Accepted, Refusal>
     ensures { Filled (room_of numbers.old levels.old kinds.old names.old places.old sizes.old)
         s.now result
         numbers.old levels.old kinds.old names.old places.old sizes.old

@@ -16,12 +16,6 @@ ghost use Rattle.list_columns.specs.Columns.{
 
 use list_spec::Record;
 
-fn least(a: usize, b: usize) -> usize
-    ensures { result ≡ min a b }
-{
-    if a < b { a } else { b }
-}
-
 // The length of the shortest of six columns.
 pub fn shortest(
     numbers: usize,
@@ -33,10 +27,10 @@ pub fn shortest(
 ) -> usize
     ensures { result ≡ min (min (min numbers levels) (min kinds names)) (min places sizes) }
 {
-    least(
-        least(least(numbers, levels), least(kinds, names)),
-        least(places, sizes),
-    )
+    numbers
+        .min(levels)
+        .min(kinds.min(names))
+        .min(places.min(sizes))
 }
 
 // Puts a record at place i of a table.
@@ -98,8 +92,7 @@ pub fn put_records(
         × (sizes.new ≡ column size_of (take n (records_in (read_file s.now))) sizes.old) }
 {
     let mut cur = list_cursor::first();
-    while cur.number < n {
-        let i = cur.number;
+    for i in 0..n {
         let r = list_cursor::record_at(s, cur);
         put_record(numbers, levels, kinds, names, places, sizes, i, r);
         cur = list_cursor::advance(s, cur);

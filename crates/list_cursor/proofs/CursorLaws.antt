@@ -12,11 +12,11 @@ use Rattle.iff_name.specs.declared.Name.{Name}
 use Rattle.iff_chunk.specs.Chunks.{word}
 use Rattle.iff_rules.specs.Rules.{is_group}
 use Rattle.list_spec.specs.declared.Record.{Record}
-use Rattle.list_spec.specs.declared.Listed.TheVariants.{Chunk as Listed-chunk}
 use Rattle.list_spec.specs.Records.{record_of, count_of}
 use Rattle.list_cursor.specs.declared.Cursor.{Cursor}
 use Rattle.list_cursor.specs.Cursors.{name_at, record_at, open_level, entered, passed, group_at, onward_at, Enterable, Passable, Lies, Located}
 use Rattle.list_cursor.proofs.laws.Walk.{located_record, located_header, located_type, located_enterable, located_passable, located_onward, onward_number}
+use Rattle.std.specs.Prelude.{Ok}
 
 -- groups that end at a place
 
@@ -108,8 +108,8 @@ module _ (s : List ℕ) (cur : Cursor) (at : Located s cur) (more : cur.number <
     past = located_passable s cur at more;
   }
 
-  pub file_record : (r : Record) → r ≡ record_at s cur.level cur.number cur.place → Listed-chunk r ≡ record_of s cur.number
-  file_record r e = ap (λ (x : Record). Listed-chunk x) e ∙ sym (located_record s cur at more)
+  pub file_record : (r : Record) → r ≡ record_at s cur.level cur.number cur.place → Ok r ≡ record_of s cur.number
+  file_record r e = ap (λ (x : Record). Ok x) e ∙ sym (located_record s cur at more)
 
   pub file_onward : (r : Cursor) → r ≡ onward_at s cur → Located s r
   file_onward r e = rw e (located_onward s cur at more)

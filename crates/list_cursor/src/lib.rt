@@ -1,8 +1,7 @@
 // A cursor that goes through the chunks of an accepted file in file order.
 #![tactic(auto)]
 
-ghost use Rattle.std.specs.Prelude.{◌≡◌, ◌+◌, ◌≤◌, ◌<◌};
-ghost use Rattle.list_spec.specs.declared.Listed.TheVariants.{Chunk as Listed-chunk};
+ghost use Rattle.std.specs.Prelude.{◌≡◌, Ok, ◌+◌, ◌≤◌, ◌<◌};
 ghost use Rattle.list_spec.specs.Records.{count_of, record_of};
 ghost use Rattle.list_cursor.specs.Cursors.{first_cursor, record_at, open_level, entered, passed, onward_at, Enterable, Passable, Lies, Located};
 
@@ -76,7 +75,7 @@ pub fn header_at(s: &[u8], cur: Cursor) -> Record
 // The record of the chunk at the cursor.
 pub fn record_at(s: &[u8], cur: Cursor) -> Record
     requires { (Located s.now cur) × (cur.number < count_of s.now) }
-    ensures { Listed-chunk result ≡ record_of s.now cur.number }
+    ensures { Ok result ≡ record_of s.now cur.number }
 {
     header_at(s, cur)
 }

@@ -1,61 +1,44 @@
 // The data of one chunk by its number: where it lies in the file, and as a part of the file.
 #![tactic(auto)]
 
-ghost use Rattle.std.specs.Prelude.{◌≡◌, ◌+◌, ◌-◌, ◌≤◌, length, take, drop};
-ghost use Rattle.list_spec.specs.declared.Listed.TheVariants.{Chunk as Listed-chunk};
-ghost use Rattle.list_spec.specs.Contents.{no_extent, extent_in, extent_of, Lies, data_of, data_answer, data_pointer};
+ghost use Rattle.std.specs.Prelude.{◌≡◌, Ok, ◌+◌, ◌-◌, ◌≤◌, length, take, drop};
+ghost use Rattle.list_spec.specs.Contents.{part_in, extent_in, extent_of, Lies, data_of, data_answer, data_pointer};
 
+use iff_refusal::{Reason, Refusal};
 use list_by_number::record_by_number;
-use list_spec::{Extent, Listed, Record};
+use list_spec::{Extent, Record};
 
-// The data that was asked for: 0 and 0, or the number and place of a refusal; and the data's bytes, none with a refusal.
+// The data that was asked for: a refusal, if any, and the data's bytes, none with a refusal.
 #[derive(Clone, Copy)]
 pub struct DataAnswer<'a> {
-    pub number: usize,
-    pub place: usize,
+    pub refusal: Option<Refusal>,
     pub bytes: &'a [u8],
 }
 
-// The empty extent of a refusal.
-fn no_extent(number: usize, place: usize) -> Extent
-    ensures { result ≡ no_extent number place }
-{
-    Extent {
-        number,
-        place,
-        from: 0,
-        to: 0,
-    }
-}
-
 // Where the data of the chunk of a record lies; 15 for a group.
-fn extent_in(r: Record) -> Extent
+fn extent_in(r: Record) -> Result<Extent, Refusal>
     requires { r.place + 8 + r.size ≤ 16777216 }
-    ensures { result ≡ extent_in (Listed-chunk r) }
+    ensures { result ≡ extent_in (Ok r) }
 {
     let kind = r.kind;
     if iff_rules::is_group(kind) {
-        return no_extent(15, 0);
+        return Err(Reason::IsGroup.at(0));
     }
     let from = r.place + 8;
-    Extent {
-        number: 0,
-        place: 0,
+    Ok(Extent {
         from,
         to: from + r.size,
-    }
+    })
 }
 
 // Where the data of the chunk of a number lies in the file; 14 if there is no such record, 15 for a group.
-pub fn data_extent(s: &[u8], number: usize) -> Extent
-    ensures { (result ≡ extent_of s.now number) ×
-        Lies s.now result.from result.to (data_of s.now number) }
+#[tactic(auto, using(crate::proofs::DataLaws::extent_laws))]
+pub fn data_extent(s: &[u8], number: usize) -> Result<Extent, Refusal>
+    ensures is { result ≡ extent_of s.now number }
+    ensures lies { Lies s.now (part_in result).from (part_in result).to (data_of s.now number) }
 {
-    let l = record_by_number(s, number);
-    match l {
-        Listed::Chunk(r) => extent_in(r),
-        Listed::Refused { number, place } => no_extent(number, place),
-    }
+    let r = record_by_number(s, number)?;
+    extent_in(r)
 }
 
 // The part of a file that an extent names.
@@ -71,14 +54,17 @@ fn part_of(s: &[u8], x: Extent) -> &[u8]
 
 // The data of the chunk of a number, as a part of the file; with any refusal the empty part at the file's start.
 pub fn data<'a>(s: &'a [u8], number: usize) -> DataAnswer<'a>
-    ensures { (record { number = result.number; place = result.place; bytes = result.bytes.now } ≡ data_answer s.now number) ×
+    ensures { (record { refusal = result.refusal; bytes = result.bytes.now } ≡ data_answer s.now number) ×
         (result.bytes.ref_ptr ≡ data_pointer s.now number s.entry.ref_ptr) }
 {
-    let x = data_extent(s, number);
-    let bytes = part_of(s, x);
-    DataAnswer {
-        number: x.number,
-        place: x.place,
-        bytes,
+    match data_extent(s, number) {
+        Ok(x) => DataAnswer {
+            refusal: None,
+            bytes: part_of(s, x),
+        },
+        Err(r) => DataAnswer {
+            refusal: Some(r),
+            bytes: &s[..0],
+        },
     }
 }

@@ -5,14 +5,16 @@
 ghost use Rattle.std.specs.Prelude.{◌≡◌};
 ghost use Rattle.list_reader.specs.Reading.{opening_of, first_place, step_at, place_after};
 
-use list_reader::{Place, Refusal, Step, opening_of, place_after, step_at};
+use iff_refusal::Refusal;
+use list_reader::{Place, opening_of, place_after, step_at};
+use list_spec::Record;
 
-// The lent file, the reader's place in it, and the file's structure refusal: 0 and 0 if it is accepted.
+// The lent file, the reader's place in it, and the file's structure refusal, if any.
 #[derive(Clone, Copy)]
 pub struct Reader<'a> {
     pub file: &'a [u8],
     pub place: Place,
-    pub refusal: Refusal,
+    pub refusal: Option<Refusal>,
 }
 
 // The reader of a file, at its first record, with the structure refusal, if any.
@@ -28,7 +30,7 @@ pub fn new<'a>(file: &'a [u8]) -> Reader<'a>
 }
 
 // The record at a reader's place, or the end.
-pub fn next<'a>(r: Reader<'a>) -> Step
+pub fn next<'a>(r: Reader<'a>) -> Option<Record>
     ensures { result ≡ step_at r.entry.file.now r.entry.place }
 {
     step_at(r.file, r.place)
@@ -49,7 +51,7 @@ pub fn advanced<'a>(r: Reader<'a>) -> Reader<'a>
 }
 
 // What a new reader gives first.
-pub fn first(s: &[u8]) -> Step
+pub fn first(s: &[u8]) -> Option<Record>
     ensures { result ≡ step_at s.now (first_place s.now) }
 {
     next(new(s))

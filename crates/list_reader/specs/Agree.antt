@@ -9,8 +9,8 @@ use Rattle.list_cursor.specs.Cursors.{Located}
 use Rattle.list_capacity.specs.Capacity.{records_for}
 use Rattle.list_columns.specs.Columns.{column}
 use Rattle.list_reader.specs.declared.Place.{Place}
-use Rattle.list_reader.specs.declared.Step.TheVariants.{Chunk as Step-chunk}
 use Rattle.list_reader.specs.Reading.{first_place, step_at, place_after}
+use Rattle.std.specs.Prelude.{Some}
 
 -- the reader's place after a number of steps
 
@@ -26,6 +26,6 @@ pub record Stood (s : List ℕ) (i : ℕ) (p : Place) : Type 0 where
 
 -- Record i of a file is what the reader gives after i steps, and what each column of a filled table has at i.
 pub record Agrees (s : List ℕ) (i : ℕ) (r : Record) : Type 0 where
-  pub by_reader : step_at s (place_before s i) ≡ Step-chunk r
+  pub by_reader : step_at s (place_before s i) ≡ Some r
   pub by_table :
       (f : Record → ℕ) (m : ℕ) (old : List ℕ) → count_of s ≤ m → m ≤ length old → get_or (column f (records_for m (read_file s)) old) i 0 ≡ f r

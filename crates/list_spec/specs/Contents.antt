@@ -5,10 +5,12 @@ use Rattle.iff_chunk.specs.Chunks.{Chunks, none, leaf, group, Chunk, before}
 use Rattle.iff_rules.specs.Rules.{is_group}
 use Rattle.iff_tree.specs.Judge.{Found, found, refused, read_file}
 use Rattle.list_spec.specs.declared.Record.{Record}
-use Rattle.list_spec.specs.declared.Listed.{Listed}
-use Rattle.list_spec.specs.declared.Listed.TheVariants.{Chunk as Listed-chunk, Refused}
 use Rattle.list_spec.specs.declared.Extent.{Extent}
 use Rattle.list_spec.specs.Records.{record_of}
+use Rattle.iff_refusal.specs.declared.Reason.TheVariants.{IsGroup}
+use Rattle.iff_refusal.specs.declared.Refusal.{Refusal}
+use Rattle.iff_refusal.specs.Numbers.{Answer, refusing, refusal_in}
+use Rattle.std.specs.Prelude.{Ok, Err, Option}
 
 -- What a chunk holds: data, if it is a local chunk or a filler, or members, if it is a group.
 pub data Content : Type 0 where
@@ -37,22 +39,23 @@ data_in (refused k p) i = []
 abbrev pub data_of : List ℕ → ℕ → List ℕ
 data_of s i = data_in (read_file s) i
 
--- "an empty part with any refusal"
-abbrev pub no_extent : ℕ → ℕ → Extent
-no_extent k p = record { number = k; place = p; from = 0; to = 0 }
-
 -- Where the data of a record's chunk lies: behind the header, as many bytes as the size says; "15 for a group".
-abbrev pub extent_at : Bool → Record → Extent
-extent_at true r = no_extent 15 0
-extent_at false r = record { number = 0; place = 0; from = r.place + 8; to = r.place + 8 + r.size }
+abbrev pub extent_at : Bool → Record → Answer Extent
+extent_at true r = refusing IsGroup 0
+extent_at false r = Ok (record { from = r.place + 8; to = r.place + 8 + r.size })
 
 -- "it gives 14 for no such record", and a structure refusal before that
-abbrev pub extent_in : Listed → Extent
-extent_in (Listed-chunk r) = extent_at (is_group r.kind) r
-extent_in (Refused k p) = no_extent k p
+abbrev pub extent_in : Answer Record → Answer Extent
+extent_in (Ok r) = extent_at (is_group r.kind) r
+extent_in (Err r) = Err r
 
-abbrev pub extent_of : List ℕ → ℕ → Extent
+abbrev pub extent_of : List ℕ → ℕ → Answer Extent
 extent_of s i = extent_in (record_of s i)
+
+-- "an empty part with any refusal"
+abbrev pub part_in : Answer Extent → Extent
+part_in (Ok x) = x
+part_in (Err r) = record { from = 0; to = 0 }
 
 -- The bytes from a to b are in the file, and they are d.
 pub record Lies (s : List ℕ) (a b : ℕ) (d : List ℕ) : Type 0 where
@@ -60,16 +63,15 @@ pub record Lies (s : List ℕ) (a b : ℕ) (d : List ℕ) : Type 0 where
   pub inside : b ≤ length s
   pub same : slice a b s ≡ d
 
--- What the call on a chunk's data tells: 0 and 0, or the number and place of a refusal; and the data.
-pub record Answer : Type 0 where
-  pub number : ℕ
-  pub place : ℕ
+-- What the call on a chunk's data tells: a refusal, if any; and the data.
+pub record Data : Type 0 where
+  pub refusal : Option Refusal
   pub bytes : List ℕ
 
-abbrev pub data_answer : List ℕ → ℕ → Answer
-data_answer s i = record { number = (extent_of s i).number; place = (extent_of s i).place; bytes = data_of s i }
+abbrev pub data_answer : List ℕ → ℕ → Data
+data_answer s i = record { refusal = refusal_in (extent_of s i); bytes = data_of s i }
 
 -- "as a part of the file itself": where the part begins in memory, a block and a place in it, for a file that begins there. The empty
 -- part of a refusal begins where the file does.
 abbrev pub data_pointer : List ℕ → ℕ → ℕ × ℕ → ℕ × ℕ
-data_pointer s i file = (file.0, (extent_of s i).from + file.1)
+data_pointer s i file = (file.0, (part_in (extent_of s i)).from + file.1)

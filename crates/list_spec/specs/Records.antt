@@ -4,8 +4,9 @@ use Rattle.iff_name.specs.Name.{kind_of}
 use Rattle.iff_chunk.specs.Chunks.{Chunks, none, leaf, group, Chunk, before, bytes, count}
 use Rattle.iff_tree.specs.Judge.{Found, found, refused, read_file}
 use Rattle.list_spec.specs.declared.Record.{Record}
-use Rattle.list_spec.specs.declared.Listed.{Listed}
-use Rattle.list_spec.specs.declared.Listed.TheVariants.{Chunk as Listed-chunk, Refused}
+use Rattle.iff_refusal.specs.declared.Reason.TheVariants.{NoRecord}
+use Rattle.iff_refusal.specs.Numbers.{Answer, refusing}
+use Rattle.std.specs.Prelude.{Ok}
 
 -- "Records stand in file order: number, level, kind (FORM, LIST, CAT, PROP, local, filler), name (the type for a group), place,
 -- size." Of chunks in a row at level l, the first of which has number n and stands at p; "The outermost group has level 1, any
@@ -23,17 +24,17 @@ abbrev pub records_of : Chunk → List Record
 records_of c = records_from 1 0 0 (before c none)
 
 -- the record of number i in a list, "14 if there is none"
-unfoldable pub pick_record : List Record → ℕ → Listed
-pick_record [] i = Refused 14 0
-pick_record (r ∷ rs) zero = Listed-chunk r
+unfoldable pub pick_record : List Record → ℕ → Answer Record
+pick_record [] i = refusing NoRecord 0
+pick_record (r ∷ rs) zero = Ok r
 pick_record (r ∷ rs) (suc i) = pick_record rs i
 
-abbrev pub record_in : Found Chunk → ℕ → Listed
+abbrev pub record_in : Found Chunk → ℕ → Answer Record
 record_in (found c) i = pick_record (records_of c) i
-record_in (refused k p) i = Refused k p
+record_in (refused k p) i = refusing k p
 
 -- "one record asked by its number (14 if there is none)"; "1 to 12 come before 13, 14 and 15"
-abbrev pub record_of : List ℕ → ℕ → Listed
+abbrev pub record_of : List ℕ → ℕ → Answer Record
 record_of s i = record_in (read_file s) i
 
 -- how many chunks a file has

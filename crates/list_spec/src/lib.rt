@@ -14,18 +14,9 @@ pub struct Record {
     pub size: usize,
 }
 
-// The record that was asked for, or the number and place of a refusal.
-#[derive(Clone, Copy)]
-pub enum Listed {
-    Chunk(Record),
-    Refused { number: usize, place: usize },
-}
-
-// Where a chunk's data lies in the file, with 0 and 0; or the number and place of a refusal, and then from 0 to 0.
+// Where a chunk's data lies in the file.
 #[derive(Clone, Copy)]
 pub struct Extent {
-    pub number: usize,
-    pub place: usize,
     pub from: usize,
     pub to: usize,
 }

@@ -50,7 +50,11 @@ module _ (w : ℕ) (k : Kind) (h : w ≡ kind_word k) where
       let n : length (letters w ++ (10 ∷ [])) ≡ length (letters w) + 1 = length-append (letters w) (10 ∷ []) in
       (subst (λ (t : List ℕ). Puts o at (kind= ++ t ++ (10 ∷ [])) e r) kind_text_lem l, omega (arith, few_letters, p.0, q.0))
 
--- the remainders of a name's number are the name's bytes
-pub name_put : (o m e : List ℕ) (at a r n : ℕ) → Puts o at name= m a → Puts m a (name_text n ++ (10 ∷ [])) e r → Puts o at (name_line n) e r × (r ≤ at + 10)
+-- the bytes of a name behind the label
+pub name_put :
+    (o m e b : List ℕ) (at a r n : ℕ) → b ≡ name_text n → Puts o at name= m a → Puts m a (b ++ (10 ∷ [])) e r →
+    Puts o at (name_line n) e r × (r ≤ at + 10)
 unfolding name_line
-name_put o m e at a r n p q = (behind o m e name= (name_text n ++ (10 ∷ [])) at a r p q, omega (arith, p.0, q.0))
+name_put o m e b at a r n h p q =
+    let l : Puts m a (name_text n ++ (10 ∷ [])) e r = subst (λ (t : List ℕ). Puts m a (t ++ (10 ∷ [])) e r) h q in
+    (behind o m e name= (name_text n ++ (10 ∷ [])) at a r p l, omega (arith, p.0, l.0))

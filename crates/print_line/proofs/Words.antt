@@ -1,132 +1,115 @@
--- Bytes are put behind a text one by one: after i bytes the text is what it was and the first i of them.
+-- Bytes are put behind a text, and then a last byte. The letters of a word are its bytes before the zeros at its end.
 use Prim.Native.Nat.{ℕ, zero, suc, ◌+◌, ◌-◌, ◌*◌, ◌/◌, ◌%◌, ◌^◌, ◌≤◌, ◌<◌}
 use mathlib.Core.Bool.{Bool, true, false}
-use mathlib.Core.Path.{◌≡◌, refl, sym, ap, ◌∙◌}
-use mathlib.Core.List.{List, [], ◌∷◌, ◌++◌, append-nil, append_assoc}
+use mathlib.Core.Path.{◌≡◌, refl}
+use mathlib.Core.List.{List, [], ◌∷◌, ◌++◌, append_assoc}
 use native.Mathlib.Omega.{arith}
 use native.Mathlib.Numerals.{add-one}
-use native.Mathlib.Nat.{pow-le-pow_right}
-use lib.Dec.{leb, ltb}
-use lib.ListN.{length, take, get_or, set, length-append}
-use lib.Seq.{take-suc, take-suc-set, take_all}
-use borrow.Author.Tests.{leb-true, leb-false, ltb-true, ltb-false}
-use Rattle.io.specs.Digits.{IsDigitCount}
-use Rattle.iff_name.specs.Name.{both}
+use native.Mathlib.Nat.{pow-suc, zero-lt-suc}
+use lib.Dec.{ltb}
+use lib.Arith.{mod-mul}
+use lib.Pow.{pow_pos}
+use lib.Count.{count_trailing_zeros, under}
+use lib.ListN.{length, take, drop, set, length-append, length-drop}
+use lib.Seq.{take-suc-set, length-take-le, take_at}
+use borrow.Rule.Slice.PartMut.{put_mid, post_of, same_len_mid}
+use borrow.Author.Tests.{ltb-true, ltb-false}
+use Rattle.std.specs.Int.{byte_at, bytes_high_first}
 use Rattle.print_line.specs.Text.{Puts}
 use Rattle.print_line.specs.Words.{letters_up_to, letters}
 
-pub none_put : (out word : List ℕ) (at : ℕ) → take (at + 0) out ≡ take at out ++ take 0 word
-none_put out word at = let z : at + 0 ≡ at = omega arith in rw (z, append-nil)
+-- bytes are put, and then a last byte
+pub bytes_put :
+    (out bytes : List ℕ) (at v : ℕ) → at + length bytes + 1 ≤ length out →
+    Puts out at (bytes ++ (v ∷ [])) (set (put_mid at (at + length bytes - at) out bytes) (at + length bytes) v) (at + length bytes + 1)
+bytes_put out bytes at v h =
+    let k : ℕ = at + length bytes in
+    let rest : List ℕ = drop at out in
+    let after : List ℕ = post_of at (k - at) out in
+    let all : List ℕ = put_mid at (k - at) out bytes in
+    let mid : length bytes ≡ length (take (k - at) rest) = rw (length-take-le (k - at) rest (rw length-drop (omega arith))) (omega arith) in
+    let room : k < length all = rw (same_len_mid at (k - at) out bytes mid) (omega arith) in
+    let text : List ℕ = take at out ++ bytes in
+    let front : length text ≡ k = rw (length-append, length-take-le at out (omega arith)) in
+    let put : take k all ≡ text = rw (← append_assoc (take at out) bytes after) (take_at text after k front) in
+    (rw length-append (omega arith), rw (add-one k, take-suc-set all k v room, put) (append_assoc (take at out) bytes (v ∷ [])))
 
--- a byte put behind a text
-byte_put : (out : List ℕ) (at i v : ℕ) → at + i < length out → take (at + (i + 1)) (set out (at + i) v) ≡ take (at + i) out ++ (v ∷ [])
-byte_put out at i v k = let n : at + (i + 1) ≡ suc (at + i) = omega arith in rw n (take-suc-set out (at + i) v k)
+-- how the number of zeros at a number's end tells whether its last j digits are zeros
+abbrev pub Zeros : ℕ → ℕ → ℕ → Type 0
+Zeros n t j = (n % 2 ^ j ≡ 0 → j ≤ t) × (0 < n % 2 ^ j → t < j)
 
-pub one_put :
-    (out₀ out word : List ℕ) (at i : ℕ) → i < length word → at + i < length out → take (at + i) out ≡ take at out₀ ++ take i word →
-    take (at + (i + 1)) (set out (at + i) (get_or word i 0)) ≡ take at out₀ ++ take (i + 1) word
-one_put out₀ out word at i h k e =
-    rw (byte_put out at i (get_or word i 0) k, add-one i, take-suc word i 0 h, e) (append_assoc (take at out₀) (take i word) (get_or word i 0 ∷ []))
-
--- a text is put, and then a last byte
-pub last_put :
-    (out₀ out text : List ℕ) (at i v : ℕ) → i ≡ length text → at + i < length out → take (at + i) out ≡ take at out₀ ++ text →
-    Puts out₀ at (text ++ (v ∷ [])) (set out (at + i) v) (at + i + 1)
-last_put out₀ out text at i v h k e =
-    let l : length (text ++ (v ∷ [])) ≡ length text + 1 = length-append text (v ∷ []) in
-    let n : at + i + 1 ≡ at + (i + 1) = omega arith in
-    (omega arith, rw (n, byte_put out at i v k, e) (append_assoc (take at out₀) text (v ∷ [])))
-
-pub all_put : (out₀ out word : List ℕ) (at i : ℕ) → length word ≤ i → take (at + i) out ≡ take at out₀ ++ take i word → take (at + i) out ≡ take at out₀ ++ word
-all_put out₀ out word at i h e = e ∙ ap (λ (l : List ℕ). take at out₀ ++ l) (take_all i word h)
-
--- What is put of a word's letters and those that are left make all of them.
-pub record Coming (out₀ : List ℕ) (at word : ℕ) (out : List ℕ) (i rest : ℕ) : Type 0 where
-  pub left : ℕ
-  pub turns : i + left ≡ 8
-  pub size : i + length (letters_up_to left rest) ≡ length (letters word)
-  pub text : take (at + i) out ++ letters_up_to left rest ≡ take at out₀ ++ letters word
-
-pub all_coming : (out : List ℕ) (at word : ℕ) → Coming out at word out 0 word
-all_coming out at word =
-    let z : at + 0 ≡ at = omega arith in
-    record { left = 8; turns = refl; size = omega arith; text = rw z }
-
--- the test at each turn: fewer than eight letters are put, and the rest has some
-abbrev pub goes_on : ℕ → ℕ → Bool
-goes_on i rest = both (ltb i 8) (ltb 0 rest)
-
-pub fewer : (i rest : ℕ) → goes_on i rest ≡ true → i < 8
-fewer i rest t = by_cases (ltb i 8) refl
+zeros_more : (n j t d : ℕ) → n % 2 ≡ d → Zeros (n / 2) t j → Zeros n (under d t) (suc j)
+zeros_more n j t d e rest = by_cases d e
   where
-    by_cases : (b : Bool) → ltb i 8 ≡ b → i < 8
-    by_cases true e = ltb-true i 8 e
-    by_cases false e = let f : both false (ltb 0 rest) ≡ true = rw e at t in absurd (let z : ◌≡◌ {A = ℕ} 0 1 = cc in omega arith)
+    halved : n % 2 ^ suc j ≡ (n / 2 % 2 ^ j) * 2 + n % 2
+    halved = rw (pow-suc 2 j) (mod-mul n (pow_pos j) (zero-lt-suc 1))
 
-some : (i rest : ℕ) → goes_on i rest ≡ true → ltb 0 rest ≡ true
-some i rest t = by_cases (ltb i 8) refl
-  where
-    by_cases : (b : Bool) → ltb i 8 ≡ b → ltb 0 rest ≡ true
-    by_cases true e = rw e at t
-    by_cases false e = let f : both false (ltb 0 rest) ≡ true = rw e at t in absurd (let z : ◌≡◌ {A = ℕ} 0 1 = cc in omega arith)
+    by_cases : (d : ℕ) → n % 2 ≡ d → Zeros n (under d t) (suc j)
+    by_cases zero e = let h = halved in (λ z. omega (arith, rest.0 (omega arith)), λ z. omega (arith, rest.1 (omega arith)))
+    by_cases (suc d) e = let h = halved in (λ z. absurd (omega arith), λ z. omega arith)
 
-none : (i k rest : ℕ) → i + suc k ≡ 8 → goes_on i rest ≡ false → ltb 0 rest ≡ false
-none i k rest h t = by_cases (ltb i 8) refl
-  where
-    by_cases : (b : Bool) → ltb i 8 ≡ b → ltb 0 rest ≡ false
-    by_cases true e = rw e at t
-    by_cases false e = let f = ltb-false i 8 e in absurd (omega arith)
+zeros : (b n j : ℕ) → j ≤ b → Zeros n (count_trailing_zeros b n) j
+unfolding count_trailing_zeros
+zeros b n zero h = (λ e. omega arith, λ e. absurd (omega arith))
+zeros zero n (suc j) h = absurd (omega arith)
+zeros (suc b) n (suc j) h = zeros_more n j (count_trailing_zeros b (n / 2)) (n % 2) refl (zeros b (n / 2) j (omega arith))
 
-first_letter : (k rest : ℕ) → ltb 0 rest ≡ true → letters_up_to (suc k) rest ≡ rest / 0x100000000000000 ∷ letters_up_to k (rest % 0x100000000000000 * 256)
+-- what is left of a word where k + 1 of its bytes are left: its first byte, and what is left behind that
+record Left (w k r : ℕ) : Type 0 where
+  first : r / 0x100000000000000 ≡ byte_at k w
+  others : r % 0x100000000000000 * 256 ≡ w % 2 ^ (8 * k) * 2 ^ (8 * (8 - k))
+  none : r ≡ 0 → w % 2 ^ (8 * suc k) ≡ 0
+  some : 0 < r → 0 < w % 2 ^ (8 * suc k)
+
+left : (w k r : ℕ) → k < 8 → r ≡ w % 2 ^ (8 * suc k) * 2 ^ (8 * (7 - k)) → Left w k r
+left w zero r h e = record { first = omega arith; others = omega arith; none = λ z. omega arith; some = λ z. omega arith }
+left w (suc zero) r h e =
+    record { first = omega arith; others = omega arith; none = λ z. omega arith; some = λ z. omega arith }
+left w (suc (suc zero)) r h e =
+    record { first = omega arith; others = omega arith; none = λ z. omega arith; some = λ z. omega arith }
+left w (suc (suc (suc zero))) r h e =
+    record { first = omega arith; others = omega arith; none = λ z. omega arith; some = λ z. omega arith }
+left w (suc (suc (suc (suc zero)))) r h e =
+    record { first = omega arith; others = omega arith; none = λ z. omega arith; some = λ z. omega arith }
+left w (suc (suc (suc (suc (suc zero))))) r h e =
+    record { first = omega arith; others = omega arith; none = λ z. omega arith; some = λ z. omega arith }
+left w (suc (suc (suc (suc (suc (suc zero)))))) r h e =
+    record { first = omega arith; others = omega arith; none = λ z. omega arith; some = λ z. omega arith }
+left w (suc (suc (suc (suc (suc (suc (suc zero))))))) r h e =
+    record { first = omega arith; others = omega arith; none = λ z. omega arith; some = λ z. omega arith }
+left w (suc (suc (suc (suc (suc (suc (suc (suc k)))))))) r h e = absurd (omega arith)
+
+letters_left :
+    (w k r t : ℕ) → Left w k r → Zeros w t (8 * suc k) →
+    letters_up_to k (r % 0x100000000000000 * 256) ≡ take (k - t / 8) (bytes_high_first k w) →
+    letters_up_to (suc k) r ≡ take (suc k - t / 8) (bytes_high_first (suc k) w)
 unfolding letters_up_to
-first_letter k rest t = rw t
-
-no_letter : (i k rest : ℕ) → i + k ≡ 8 → goes_on i rest ≡ false → letters_up_to k rest ≡ []
-unfolding letters_up_to
-no_letter i zero rest h t = refl
-no_letter i (suc k) rest h t = rw (none i k rest h t)
-
-module _ (out₀ out : List ℕ) (at word i rest : ℕ) where
-  pub letter_left : goes_on i rest ≡ true → Coming out₀ at word out i rest → i < length (letters word)
-  letter_left t h = by_cases h.left h.turns h.size
-    where
-      by_cases : (k : ℕ) → i + k ≡ 8 → i + length (letters_up_to k rest) ≡ length (letters word) → i < length (letters word)
-      by_cases zero n z = let f = fewer i rest t in absurd (omega arith)
-      by_cases (suc k) n z = let y = ap length (first_letter k rest (some i rest t)) in omega arith
-
-  pub letter_put :
-      goes_on i rest ≡ true → at + i < length out → Coming out₀ at word out i rest →
-      Coming out₀ at word (set out (at + i) (rest / 0x100000000000000)) (i + 1) (rest % 0x100000000000000 * 256)
-  letter_put t room h = by_cases h.left h.turns h.size h.text
-    where
-      by_cases :
-          (k : ℕ) → i + k ≡ 8 → i + length (letters_up_to k rest) ≡ length (letters word) → take (at + i) out ++ letters_up_to k rest ≡ take at out₀ ++ letters word →
-          Coming out₀ at word (set out (at + i) (rest / 0x100000000000000)) (i + 1) (rest % 0x100000000000000 * 256)
-      by_cases zero n z e = let f = fewer i rest t in absurd (omega arith)
-      by_cases (suc k) n z e =
-          let y = first_letter k rest (some i rest t) in
-          record {
-            left = k;
-            turns = omega arith;
-            size = omega (arith, ap length y);
-            text = rw (byte_put out at i (rest / 0x100000000000000) room, append_assoc) (rw y at e);
-          }
-
-  pub letters_put : goes_on i rest ≡ false → Coming out₀ at word out i rest → (i ≡ length (letters word)) × (take (at + i) out ≡ take at out₀ ++ letters word)
-  letters_put t h =
-      let y : letters_up_to h.left rest ≡ [] = no_letter i h.left rest h.turns t in
-      (omega (arith, ap length y, h.size), sym (append-nil (take (at + i) out)) ∙ ap (λ (l : List ℕ). take (at + i) out ++ l) (sym y) ∙ h.text)
-
--- The decimal digits of a number of 64 bits are at most 20.
-pub few_digits : (n k : ℕ) → n < 2 ^ 64 → IsDigitCount 10 1 n k → k ≤ 20
-few_digits n k h f = by_cases (leb k 20) refl
+letters_left w k r t l z e = by_cases (ltb 0 r) refl
   where
-    too_many : 20 < k → ⊥
-    too_many m =
-        let p : 10 ^ 20 ≤ 10 ^ (k - 1) = pow-le-pow_right (omega arith) {i = 20} {j = k - 1} (omega arith) in
-        let q : 10 ^ (k - 1) ≤ n = f.2 (omega arith) in
-        omega arith
+    by_cases : (b : Bool) → ltb 0 r ≡ b → letters_up_to (suc k) r ≡ take (suc k - t / 8) (bytes_high_first (suc k) w)
+    by_cases true g =
+        let q : 0 < r = ltb-true 0 r g in
+        let m : suc k - t / 8 ≡ suc (k - t / 8) = omega (arith, z.1 (l.some q)) in
+        rw (g, m, l.first, e)
+    by_cases false g =
+        let q : r ≤ 0 = ltb-false 0 r g in
+        let m : suc k - t / 8 ≡ 0 = omega (arith, z.0 (l.none (omega arith))) in
+        rw (g, m)
 
-    by_cases : (b : Bool) → leb k 20 ≡ b → k ≤ 20
-    by_cases true e = leb-true k 20 e
-    by_cases false e = absurd (too_many (leb-false k 20 e))
+letters_of :
+    (w k r : ℕ) → k ≤ 8 → r ≡ w % 2 ^ (8 * k) * 2 ^ (8 * (8 - k)) →
+    letters_up_to k r ≡ take (k - count_trailing_zeros 64 w / 8) (bytes_high_first k w)
+unfolding letters_up_to
+letters_of w zero r h e = let z : 0 - count_trailing_zeros 64 w / 8 ≡ 0 = omega arith in rw z
+letters_of w (suc k) r h e =
+    let t = count_trailing_zeros 64 w in
+    let m : 8 - suc k ≡ 7 - k = omega arith in
+    let l = left w k r (omega arith) (rw m at e) in
+    let others = letters_of w k (r % 0x100000000000000 * 256) (omega arith) l.others in
+    letters_left w k r t l (zeros 64 w (8 * suc k) (omega arith)) others
+
+-- the letters of a word are its bytes before the zeros at its end
+pub letters_are :
+    (w : ℕ) (bytes : List ℕ) → w < 2 ^ 64 → bytes ≡ bytes_high_first 8 w →
+    letters w ≡ take (8 - count_trailing_zeros 64 w / 8) bytes
+letters_are w bytes h e = rw e (letters_of w 8 w (omega arith) (omega arith))

@@ -13,35 +13,25 @@ const KIND: u64 = 0x6B696E6400000000;
 // name
 const NAME: u64 = 0x6E616D6500000000;
 
-// Puts the letters of a word and a last byte behind the first `at` bytes of a text, and gives the text's length.
+// Puts bytes and a last byte behind the first `at` bytes of a text, and gives the text's length.
+fn put_bytes(out: &mut [u8], at: usize, bytes: &[u8], last: u8) -> usize
+    requires { at + length bytes.now + 1 ≤ length out.old }
+    ensures { Puts out.old at (bytes.now ++ (last ∷ [])) out.new result }
+{
+    let end = at + bytes.len();
+    out[at..end].copy_from_slice(bytes);
+    out[end] = last;
+    end + 1
+}
+
+// Puts the letters of a word and a last byte.
 // A word is a number of eight bytes, and its letters are those before the zeros at its end.
 fn put_word(out: &mut [u8], at: usize, word: u64, last: u8) -> usize
     requires { at + length (letters word) + 1 ≤ length out.old }
     ensures { Puts out.old at (letters word ++ (last ∷ [])) out.new result }
 {
-    let mut i = 0;
-    let mut rest = word;
-    while (i < 8) & (0 < rest) {
-        out[at + i] = (rest / 0x100000000000000) as u8;
-        rest = rest % 0x100000000000000 * 256;
-        i += 1;
-    }
-    out[at + i] = last;
-    at + i + 1
-}
-
-// Puts bytes and LF.
-fn put_line(out: &mut [u8], at: usize, bytes: &[u8]) -> usize
-    requires { at + length bytes.now + 1 ≤ length out.old }
-    ensures { Puts out.old at (bytes.now ++ (10 ∷ [])) out.new result }
-{
-    let mut i = 0;
-    while i < bytes.len() {
-        out[at + i] = bytes[i];
-        i += 1;
-    }
-    out[at + i] = b'\n';
-    at + i + 1
+    let n = 8 - word.trailing_zeros() as usize / 8;
+    put_bytes(out, at, &word.to_be_bytes()[..n], last)
 }
 
 // Puts a line with a number: the label, '=', the number's decimal digits, LF.
@@ -53,7 +43,7 @@ fn put_number(out: &mut [u8], at: usize, label: u64, n: usize) -> usize
     let mut digits = [0u8; 20];
     let k = io::decimal(n as u64, &mut digits);
     let a = put_word(out, at, label, b'=');
-    put_line(out, a, &digits[..k])
+    put_bytes(out, a, &digits[..k], b'\n')
 }
 
 // Puts two lines with numbers.
@@ -96,13 +86,6 @@ pub fn put_name(out: &mut [u8], at: usize, name: Name) -> usize
     ensures puts { Puts out.old at (name_line name.code) out.new result }
     ensures upper_bound { result ≤ at + 10 }
 {
-    let n = name.code;
-    let bytes = [
-        (n / 16777216) as u8,
-        (n / 65536 % 256) as u8,
-        (n / 256 % 256) as u8,
-        (n % 256) as u8,
-    ];
     let a = put_word(out, at, NAME, b'=');
-    put_line(out, a, &bytes)
+    put_bytes(out, a, &name.code.to_be_bytes(), b'\n')
 }

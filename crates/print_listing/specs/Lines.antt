@@ -1,29 +1,26 @@
 -- 01 "Examples": what the program prints for a file: the lines of its answer, then six lines for each record.
 use Rattle.std.specs.Prelude.{ℕ, zero, suc, List, [], ◌++◌}
-use Rattle.iff_tree.specs.declared.Verdict.{Verdict}
-use Rattle.iff_tree.specs.declared.Verdict.TheVariants.{Accepted, Refused as Verdict-refused}
 use Rattle.iff_tree.specs.Judge.{check_of}
 use Rattle.list_spec.specs.declared.Record.{Record}
-use Rattle.list_spec.specs.declared.Listed.{Listed}
-use Rattle.list_spec.specs.declared.Listed.TheVariants.{Chunk, Refused}
 use Rattle.print_line.specs.Text.{record_text, refusal_text, head_text}
 use Rattle.list_spec.specs.Records.{record_of, count_of}
 use Rattle.ilbm_count.specs.Count as Count
-use Rattle.ilbm_count.specs.declared.Counted.{Counted}
-use Rattle.ilbm_count.specs.declared.Counted.TheVariants.{Pictures, Refused as Counted-refused}
+use Rattle.iff_refusal.specs.Numbers.{Answer, number_of}
+use Rattle.iff_tree.specs.declared.Accepted.{Accepted}
+use Rattle.std.specs.Prelude.{Ok, Err}
 
 -- how many pictures the file has
-abbrev pub pictures_in : Counted → ℕ
-pictures_in (Pictures n) = n
-pictures_in (Counted-refused k p) = 0
+abbrev pub pictures_in : Answer ℕ → ℕ
+pictures_in (Ok n) = n
+pictures_in (Err r) = 0
 
 abbrev pub pictures_of : List ℕ → ℕ
 pictures_of s = pictures_in (Count.count_of s)
 
 -- the lines that stand first: "A refusal prints the first two lines only."
-abbrev pub verdict_lines : List ℕ → Verdict → List ℕ
-verdict_lines s (Accepted chunks end trailing) = head_text chunks end trailing (pictures_of s)
-verdict_lines s (Verdict-refused k p) = refusal_text k p
+abbrev pub verdict_lines : List ℕ → Answer Accepted → List ℕ
+verdict_lines s (Ok v) = head_text v.chunks v.end v.trailing (pictures_of s)
+verdict_lines s (Err r) = refusal_text (number_of r.reason) r.place
 
 abbrev pub answer_lines : List ℕ → List ℕ
 answer_lines s = verdict_lines s (check_of s)
@@ -32,9 +29,9 @@ abbrev pub record_lines : Record → List ℕ
 record_lines r = record_text r.number r.level r.kind r.name.code r.place r.size
 
 -- the lines of one record of a file, none if it has no such record
-abbrev pub listed_lines : Listed → List ℕ
-listed_lines (Chunk r) = record_lines r
-listed_lines (Refused k p) = []
+abbrev pub listed_lines : Answer Record → List ℕ
+listed_lines (Ok r) = record_lines r
+listed_lines (Err r) = []
 
 -- "The last six lines come once per chunk": those of n records, from the number m on
 unfoldable pub lines_from : List ℕ → ℕ → ℕ → List ℕ

@@ -7,37 +7,26 @@ ghost use Rattle.list_spec.specs.Records.{record_of, count_of};
 ghost use Rattle.list_cursor.specs.Cursors.{Located};
 ghost use Rattle.print_listing.specs.Lines.{pictures_of, answer_lines, listed_lines};
 
-use iff_tree::Verdict;
-use ilbm_count::Counted;
+use iff_refusal::Refusal;
+use iff_tree::Accepted;
 use list_cursor::Cursor;
 
 // How many pictures a file has, 0 if it is refused.
 fn pictures(s: &[u8]) -> usize
     ensures { result ≡ pictures_of s.now }
 {
-    let c = ilbm_count::count_pictures(s);
-    match c {
-        Counted::Pictures(n) => n,
-        Counted::Refused {
-            number: _,
-            place: _,
-        } => 0,
-    }
+    ilbm_count::count_pictures(s).unwrap_or(0)
 }
 
 // Puts the lines that stand first: the refusal of a file, or what the check tells of it.
-pub fn answer_lines(out: &mut [u8], s: &[u8], v: Verdict) -> usize
+pub fn answer_lines(out: &mut [u8], s: &[u8], v: Result<Accepted, Refusal>) -> usize
     requires { (200 ≤ length out.old) × (v ≡ check_of s.now) }
     ensures out_after { take result out.new ≡ answer_lines s.now }
     ensures upper_bound { result ≤ 200 }
 {
     match v {
-        Verdict::Accepted {
-            chunks,
-            end,
-            trailing,
-        } => print_lines::put_head(out, chunks, end, trailing, pictures(s)),
-        Verdict::Refused { number, place } => print_lines::put_refusal(out, number, place),
+        Ok(a) => print_lines::put_head(out, a.chunks, a.end, a.trailing, pictures(s)),
+        Err(r) => print_lines::put_refusal(out, r.reason.number(), r.place),
     }
 }
 

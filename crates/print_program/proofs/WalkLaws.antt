@@ -2,8 +2,6 @@
 -- records, of which a refused one has none.
 use Rattle.std.proofs.Common.{◌≡◌, ℕ, zero, suc, ◌+◌, ◌≤◌, List, [], ◌++◌, Option, refl, sym, ap, ◌∙◌, append_assoc, append-nil, subst, arith}
 use Rattle.std.specs.Io.KnownBytes.{Appends}
-use Rattle.iff_tree.specs.declared.Verdict.{Verdict}
-use Rattle.iff_tree.specs.declared.Verdict.TheVariants.{Accepted, Refused}
 use Rattle.iff_tree.specs.Judge.{Found, found, refused, read_file, verdict_of, check_of}
 use Rattle.iff_chunk.specs.Chunks.{Chunk}
 use Rattle.iff_grammar.specs.Words.{Bytes}
@@ -13,13 +11,16 @@ use Rattle.list_cursor.specs.Cursors.{first_cursor, Located}
 use Rattle.list_cursor.proofs.laws.Walk.{located_first}
 use Rattle.print_listing.specs.Lines.{answer_lines, listed_lines, lines_from, printed}
 use Rattle.print_program.proofs.KnownBytes.{appends_none, appends_both}
+use Rattle.iff_refusal.specs.declared.Refusal.{Refusal}
+use Rattle.iff_tree.specs.declared.Accepted.{Accepted}
+use Rattle.std.specs.Prelude.{Ok, Err}
 
-module _ (s : List ℕ) (v : Verdict) (n a t : ℕ) (d : v ≡ check_of s) (e : v ≡ Accepted n a t) (b : Bytes s) where
+module _ (s : List ℕ) (b : Bytes s) (v : Accepted) (d : Ok v ≡ check_of s) where
   pub accepted_start : Located s first_cursor
-  accepted_start = (located_first s b n a t (sym e ∙ d)).0
+  accepted_start = (located_first s b v d).0
 
-  pub accepted_count : n ≡ count_of s
-  accepted_count = (located_first s b n a t (sym e ∙ d)).1
+  pub accepted_count : v.chunks ≡ count_of s
+  accepted_count = (located_first s b v d).1
 
 -- the lines of n + 1 records are those of n and those of the last
 pub lines_next : (s : List ℕ) (m n k : ℕ) → m + n ≡ k
@@ -33,9 +34,9 @@ lines_next s m (suc n) k e =
     let rest = lines_next s (suc m) n k (omega (arith, e)) in
     ap (λ l. first ++ l) rest ∙ sym (append_assoc first (lines_from s (suc m) n) (listed_lines (record_of s k)))
 
-refused_count : (s : List ℕ) (k p : ℕ) (f : Found Chunk) → Refused k p ≡ verdict_of s f → count_in f ≡ 0
-refused_count s k p (found c) e = let z : ◌≡◌ {A = ℕ} 0 1 = cc in absurd (omega arith)
-refused_count s k p (refused i q) e = refl
+refused_count : (s : List ℕ) (r : Refusal) (f : Found Chunk) → Err r ≡ verdict_of s f → count_in f ≡ 0
+refused_count s r (found c) e = let z : ◌≡◌ {A = ℕ} 0 1 = cc in absurd (omega arith)
+refused_count s r (refused i q) e = refl
 
 module _ (s : List ℕ) (a b : Option (List ℕ)) (h : Appends a b (answer_lines s)) where
   pub accepted_printed : (c : Option (List ℕ)) (n : ℕ) → n ≡ count_of s → Appends b c (lines_from s 0 n)
@@ -43,10 +44,10 @@ module _ (s : List ℕ) (a b : Option (List ℕ)) (h : Appends a b (answer_lines
   accepted_printed c n e g =
       appends_both a b c (answer_lines s) (lines_from s 0 (count_of s)) h (subst (λ m. Appends b c (lines_from s 0 m)) e g)
 
-  pub refused_printed : (v : Verdict) (k p : ℕ) → v ≡ check_of s → v ≡ Refused k p → Appends a b (printed s)
+  pub refused_printed : (r : Refusal) → Err r ≡ check_of s → Appends a b (printed s)
   unfolding lines_from
-  refused_printed v k p d e =
-      let none : lines_from s 0 (count_of s) ≡ [] = ap (lines_from s 0) (refused_count s k p (read_file s) (sym e ∙ d)) in
+  refused_printed r d =
+      let none : lines_from s 0 (count_of s) ≡ [] = ap (lines_from s 0) (refused_count s r (read_file s) d) in
       subst (Appends a b) (sym (ap (λ l. answer_lines s ++ l) none ∙ append-nil (answer_lines s))) h
 
 -- the lines of the records before m, then those of m

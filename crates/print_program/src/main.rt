@@ -10,7 +10,8 @@ ghost use Rattle.print_line.specs.Text.{refusal_text};
 ghost use Rattle.print_listing.specs.Lines.{answer_lines, listed_lines, lines_from, printed};
 ghost use Rattle.print_program.specs.Output.{output_of};
 
-use iff_tree::Verdict;
+use iff_refusal::{Reason, Refusal};
+use iff_tree::Accepted;
 use list_cursor::Cursor;
 use std::io;
 use std::io::{Read, Write};
@@ -26,7 +27,7 @@ fn write_text<W: Write>(to: &mut W, out: &[u8], n: usize) -> io::Result<()>
     to.write_all(&out[..n])
 }
 
-fn write_answer<W: Write>(to: &mut W, s: &[u8], v: Verdict) -> io::Result<()>
+fn write_answer<W: Write>(to: &mut W, s: &[u8], v: Result<Accepted, Refusal>) -> io::Result<()>
     requires { v ≡ check_of s.now }
     ensures { OnOk result (Appends (W.contents to.old) (W.contents to.new) (answer_lines s.now)) }
 {
@@ -64,12 +65,8 @@ fn list<W: Write>(to: &mut W, s: &[u8]) -> io::Result<()>
     let v = iff_tree::check(s);
     write_answer(to, s, v)?;
     match v {
-        Verdict::Accepted {
-            chunks,
-            end,
-            trailing,
-        } => write_records(to, s, chunks),
-        Verdict::Refused { number, place } => Ok(()),
+        Ok(accepted) => write_records(to, s, accepted.chunks),
+        Err(_) => Ok(()),
     }
 }
 
@@ -78,7 +75,7 @@ fn write_too_long<W: Write>(to: &mut W) -> io::Result<()>
     ensures { OnOk result (Appends (W.contents to.old) (W.contents to.new) (refusal_text 40 0)) }
 {
     let mut out = [0u8; 200];
-    let n = print_lines::put_refusal(&mut out, 40, 0);
+    let n = print_lines::put_refusal(&mut out, Reason::InputTooLong.number(), 0);
     write_text(to, &out, n)
 }
 

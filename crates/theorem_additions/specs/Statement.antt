@@ -1,22 +1,13 @@
 -- Demand 3, as one claim about a file and a whole list of additions.
-use Rattle.std.specs.Prelude.{ℕ, ◌+◌, ◌-◌, ◌≡◌, true, List, [], ◌∷◌, eqb, length, replicate}
+use Rattle.std.specs.Prelude.{ℕ, ◌+◌, ◌-◌, ◌≡◌, true, List, [], ◌∷◌, eqb, length, replicate, Some, Ok, Err}
 use Rattle.iff_name.specs.Name.{pick, version_name}
 use Rattle.iff_chunk.specs.Chunks.{Chunk}
-use Rattle.iff_tree.specs.declared.Verdict.TheVariants.{Refused}
 use Rattle.iff_tree.specs.Judge.{Found, found, read_file, check_of, refused}
 use Rattle.iff_grammar.specs.Words.{Bytes}
 use Rattle.iff_grammar.specs.Grammar.{member}
 use Rattle.ilbm_spec.specs.declared.Origin.{Origin}
 use Rattle.ilbm_spec.specs.declared.Origin.TheVariants.{Own, Shared, Absent}
 use Rattle.ilbm_spec.specs.declared.Picture.{Picture}
-use Rattle.ilbm_spec.specs.declared.PictureAnswer.{PictureAnswer}
-use Rattle.ilbm_spec.specs.declared.PictureAnswer.TheVariants.{Shown, Refused as Picture-refused}
-use Rattle.ilbm_spec.specs.declared.LineAnswer.{LineAnswer}
-use Rattle.ilbm_spec.specs.declared.LineAnswer.TheVariants.{Refused as Line-refused}
-use Rattle.ilbm_spec.specs.declared.FrameAnswer.{FrameAnswer}
-use Rattle.ilbm_spec.specs.declared.FrameAnswer.TheVariants.{Refused as Frame-refused}
-use Rattle.ilbm_spec.specs.declared.TableAnswer.{TableAnswer}
-use Rattle.ilbm_spec.specs.declared.TableAnswer.TheVariants.{Refused as Table-refused}
 use Rattle.ilbm_spec.specs.Contents.{moved_content}
 use Rattle.ilbm_spec.specs.Pictures.{Viewed, view_of, picture_of}
 use Rattle.ilbm_spec.specs.Palette.{palette_answer, Extent, palette_extent}
@@ -27,6 +18,8 @@ use Rattle.ilbm_spec.specs.Triples.{triples_of}
 use Rattle.ilbm_spec.specs.Table.{PropertyRow, BodyRow, PictureRow, table_of, table_answer, table_after}
 use Rattle.theorem_additions.specs.Additions.{Addition, tree_after, file_after, MayAddAll, moved_by, added_headers, Renaming, renamed}
 use Rattle.theorem_additions.specs.Additions.{lowest}
+use Rattle.iff_refusal.specs.declared.Reason.TheVariants.{VersionName}
+use Rattle.iff_refusal.specs.Numbers.{Answer, refusal, refusing}
 
 -- a picture as before, the places of its chunks moved; a refusal as before, with its place
 abbrev pub moved_view : (ℕ → ℕ) → Viewed → Viewed
@@ -55,9 +48,9 @@ moved_picture f x =
       view_mode_from = moved_origin f x.view_mode_from;
     }
 
-abbrev pub moved_answer : (ℕ → ℕ) → PictureAnswer → PictureAnswer
-moved_answer f (Shown x) = Shown (moved_picture f x)
-moved_answer f (Picture-refused k p) = Picture-refused k p
+abbrev pub moved_answer : (ℕ → ℕ) → Answer Picture → Answer Picture
+moved_answer f (Ok x) = Ok (moved_picture f x)
+moved_answer f (Err r) = Err r
 
 -- where the data of a chunk lies, as the palette's extent tells it: the chunk, whose header stands 8 before, moved; 0 and 0 as before
 abbrev pub moved_extent : (ℕ → ℕ) → Extent → Extent
@@ -99,42 +92,42 @@ moved_table f (found rs) = found (moved_rows f rs)
 moved_table f (refused k p) = refused k p
 
 -- What a call tells of this, and what it leaves in the lent row, frame or table, or in the two of a call that gives the shape.
-abbrev pub line_told : Read (List ℕ) → List ℕ → LineAnswer × List ℕ
+abbrev pub line_told : Read (List ℕ) → List ℕ → Answer ℕ × List ℕ
 line_told x row = (line_answer x, bytes_after x row)
 
-abbrev pub frame_told : Read (List ℕ) → List ℕ → FrameAnswer × List ℕ
+abbrev pub frame_told : Read (List ℕ) → List ℕ → Answer ℕ × List ℕ
 frame_told x frame = (frame_answer x, bytes_after x frame)
 
-abbrev pub shape_line_told : Read Shaped → List ℕ → List ℕ → LineAnswer × List ℕ × List ℕ
+abbrev pub shape_line_told : Read Shaped → List ℕ → List ℕ → Answer ℕ × List ℕ × List ℕ
 shape_line_told x row shape = (line_answer x, colours_after x row, shape_after x shape)
 
-abbrev pub shape_frame_told : Read Shaped → List ℕ → List ℕ → FrameAnswer × List ℕ × List ℕ
+abbrev pub shape_frame_told : Read Shaped → List ℕ → List ℕ → Answer ℕ × List ℕ × List ℕ
 shape_frame_told x frame shape = (frame_answer x, colours_after x frame, shape_after x shape)
 
-abbrev pub table_told : Found (List PictureRow) → List ℕ → TableAnswer × List ℕ
+abbrev pub table_told : Found (List PictureRow) → List ℕ → Answer ℕ × List ℕ
 table_told x table = (table_answer x, table_after x table)
 
 -- The calls.
-abbrev pub line_call : List ℕ → ℕ → ℕ → List ℕ → LineAnswer × List ℕ
+abbrev pub line_call : List ℕ → ℕ → ℕ → List ℕ → Answer ℕ × List ℕ
 line_call s i start row = line_told (line_of s i start (length row)) row
 
-abbrev pub frame_call : List ℕ → ℕ → List ℕ → FrameAnswer × List ℕ
+abbrev pub frame_call : List ℕ → ℕ → List ℕ → Answer ℕ × List ℕ
 frame_call s i frame = frame_told (frame_of s i (length frame)) frame
 
-abbrev pub shape_line_call : List ℕ → ℕ → ℕ → List ℕ → List ℕ → LineAnswer × List ℕ × List ℕ
+abbrev pub shape_line_call : List ℕ → ℕ → ℕ → List ℕ → List ℕ → Answer ℕ × List ℕ × List ℕ
 shape_line_call s i start row shape = shape_line_told (shape_line_of s i start (length row) (length shape)) row shape
 
-abbrev pub shape_frame_call : List ℕ → ℕ → List ℕ → List ℕ → FrameAnswer × List ℕ × List ℕ
+abbrev pub shape_frame_call : List ℕ → ℕ → List ℕ → List ℕ → Answer ℕ × List ℕ × List ℕ
 shape_frame_call s i frame shape = shape_frame_told (shape_frame_of s i (length frame) (length shape)) frame shape
 
 -- in colours, with the caller's default palette
-abbrev pub colour_line_call : List ℕ → ℕ → List ℕ → ℕ → List ℕ → LineAnswer × List ℕ
+abbrev pub colour_line_call : List ℕ → ℕ → List ℕ → ℕ → List ℕ → Answer ℕ × List ℕ
 colour_line_call s i default start row = line_told (colour_line_of s i default start (length row)) row
 
-abbrev pub colour_frame_call : List ℕ → ℕ → List ℕ → List ℕ → FrameAnswer × List ℕ
+abbrev pub colour_frame_call : List ℕ → ℕ → List ℕ → List ℕ → Answer ℕ × List ℕ
 colour_frame_call s i default frame = frame_told (colour_frame_of s i default (length frame)) frame
 
-abbrev pub table_call : List ℕ → List ℕ → TableAnswer × List ℕ
+abbrev pub table_call : List ℕ → List ℕ → Answer ℕ × List ℕ
 table_call s table = table_told (table_of s (length table)) table
 
 -- Every call on every picture answers as before. What any call is made from, `view_of`, is the same but for the places of its chunks; and
@@ -160,22 +153,22 @@ pub record SameAnswers (f g : List ℕ) (move : ℕ → ℕ) : Type 0 where
 
 -- Every call gives refusal 3 at p, and leaves what was lent; the triples are all 0.
 pub record AllRefused (g : List ℕ) (p : ℕ) : Type 0 where
-  pub check : check_of g ≡ Refused 3 p
-  pub views : (i : ℕ) → view_of g i ≡ refused 3 p
-  pub pictures : (i : ℕ) → picture_of g i ≡ Picture-refused 3 p
-  pub palettes : (i : ℕ) (default : List ℕ) → palette_answer g i default ≡ record { number = 3; place = p; colours = [] }
+  pub check : check_of g ≡ refusing VersionName p
+  pub views : (i : ℕ) → view_of g i ≡ refused VersionName p
+  pub pictures : (i : ℕ) → picture_of g i ≡ refusing VersionName p
+  pub palettes : (i : ℕ) (default : List ℕ) → palette_answer g i default ≡ record { refusal = Some (refusal VersionName p); colours = [] }
   pub extents : (i : ℕ) → palette_extent g i ≡ record { from = 0; to = 0 }
-  pub lines : (i start : ℕ) (row : List ℕ) → line_call g i start row ≡ (Line-refused 3 p, row)
-  pub frames : (i : ℕ) (frame : List ℕ) → frame_call g i frame ≡ (Frame-refused 3 p, frame)
-  pub shape_lines : (i start : ℕ) (row shape : List ℕ) → shape_line_call g i start row shape ≡ (Line-refused 3 p, row, shape)
-  pub shape_frames : (i : ℕ) (frame shape : List ℕ) → shape_frame_call g i frame shape ≡ (Frame-refused 3 p, frame, shape)
+  pub lines : (i start : ℕ) (row : List ℕ) → line_call g i start row ≡ (refusing VersionName p, row)
+  pub frames : (i : ℕ) (frame : List ℕ) → frame_call g i frame ≡ (refusing VersionName p, frame)
+  pub shape_lines : (i start : ℕ) (row shape : List ℕ) → shape_line_call g i start row shape ≡ (refusing VersionName p, row, shape)
+  pub shape_frames : (i : ℕ) (frame shape : List ℕ) → shape_frame_call g i frame shape ≡ (refusing VersionName p, frame, shape)
   pub colour_lines :
-      (i : ℕ) (default : List ℕ) (start : ℕ) (row : List ℕ) → colour_line_call g i default start row ≡ (Line-refused 3 p, row)
-  pub colour_frames : (i : ℕ) (default frame : List ℕ) → colour_frame_call g i default frame ≡ (Frame-refused 3 p, frame)
+      (i : ℕ) (default : List ℕ) (start : ℕ) (row : List ℕ) → colour_line_call g i default start row ≡ (refusing VersionName p, row)
+  pub colour_frames : (i : ℕ) (default frame : List ℕ) → colour_frame_call g i default frame ≡ (refusing VersionName p, frame)
   pub triples :
       (i : ℕ) (default : List ℕ) →
-      triples_of g i default ≡ record { number = 3; place = p; triples = replicate 64 (0 ∷ 0 ∷ 0 ∷ []) }
-  pub tables : (table : List ℕ) → table_call g table ≡ (Table-refused 3 p, table)
+      triples_of g i default ≡ record { refusal = Some (refusal VersionName p); triples = replicate 64 (0 ∷ 0 ∷ 0 ∷ []) }
+  pub tables : (table : List ℕ) → table_call g table ≡ (refusing VersionName p, table)
 
 -- the renamings put version names over added headers
 abbrev pub OverAdded : List Renaming → List ℕ → Type 0

@@ -1,17 +1,15 @@
 -- The examples of 01 that are marked to be proved: one table, one statement, by computing. A sentence without a mark that follows a marked
 -- one in its line stands here too.
-use Rattle.std.specs.Prelude.{ℕ, ◌≡◌, refl, List, [], ◌∷◌, pos, replicate}
+use Rattle.std.specs.Prelude.{ℕ, ◌≡◌, refl, List, [], ◌∷◌, pos, replicate, Ok}
 use Rattle.iff_name.specs.Name.{well_formed, version_name, kind_of, type_bytes, reserved_name, type_name}
 use Rattle.iff_chunk.specs.Chunks.{word, count, bytes}
 use Rattle.iff_rules.specs.Rules.{prop_within}
 use Rattle.iff_header.specs.Checks.{group_header_of, header_of}
-use Rattle.iff_tree.specs.Judge.{found, refused, run, chunk_at, read_file, check_of}
-use Rattle.iff_tree.specs.declared.Verdict.TheVariants.{Accepted, Refused}
+use Rattle.iff_tree.specs.Judge.{found, refused, run, chunk_at, read_file, check_of, accepting}
 use Rattle.byterun_row.specs.ByteRun.{code_of, unpack_by, unpack_row, plain_row, row_of}
 use Rattle.byterun_pieces.specs.Pieces.{three, same_for, plain_for, piece_of}
 use Rattle.byterun_pack.specs.Pack.{pack_by, packed}
 use Rattle.ilbm_spec.specs.declared.BitmapHeader.{BitmapHeader}
-use Rattle.ilbm_spec.specs.declared.PictureAnswer.TheVariants.{Refused as Picture-refused}
 use Rattle.ilbm_spec.specs.Contents.{last_named, property_of, bodies_from, contents_from}
 use Rattle.ilbm_spec.specs.Pictures.{picture_refusal, pick_content, picture_of}
 use Rattle.ilbm_spec.specs.Rows.{Read, row_read, rows_from, colour_by, colours_from, body_line}
@@ -19,7 +17,8 @@ use Rattle.write_plane_row.specs.Planes.{plane_byte, plane_row}
 use Rattle.write_body.specs.Body.{line_rows, body_lines}
 use Rattle.write_form.specs.File.{header_bytes, picture_file}
 use Rattle.write_picture.specs.Write.{wrong_fields, colour_over, wrong_shape, write_of}
-use Rattle.write_picture.specs.declared.WriteAnswer.TheVariants.{Written}
+use Rattle.iff_refusal.specs.declared.Reason.TheVariants.{NotIff, VersionName, HeaderCut, SizeTooGreat, SecondProp, NoHeader, BodyEnds, RowOverstepped}
+use Rattle.iff_refusal.specs.Numbers.{refusing}
 
 -- FORM, size 4, ILBM
 abbrev form : List ℕ
@@ -53,31 +52,31 @@ abbrev colours : List ℕ
 colours = 1 ∷ 2 ∷ 3 ∷ []
 
 pub record Table : Type 0 where
-  pub empty_file : check_of [] ≡ Refused 2 0
-  pub empty_form : check_of form ≡ Accepted 1 12 0
-  pub no_header : picture_of form 0 ≡ Picture-refused 21 0
-  pub version : check_of (70 ∷ 79 ∷ 82 ∷ 49 ∷ 0 ∷ 0 ∷ 0 ∷ 4 ∷ 73 ∷ 76 ∷ 66 ∷ 77 ∷ []) ≡ Refused 3 0
-  pub cut_short : check_of (70 ∷ 79 ∷ 82 ∷ 77 ∷ 0 ∷ 0 ∷ 0 ∷ 4 ∷ 73 ∷ 76 ∷ 66 ∷ []) ≡ Refused 7 0
-  pub one_byte_inside : check_of (70 ∷ 79 ∷ 82 ∷ 77 ∷ 0 ∷ 0 ∷ 0 ∷ 5 ∷ 73 ∷ 76 ∷ 66 ∷ 77 ∷ 0 ∷ 0 ∷ []) ≡ Refused 4 12
+  pub empty_file : check_of [] ≡ refusing NotIff 0
+  pub empty_form : check_of form ≡ accepting 1 12 0
+  pub no_header : picture_of form 0 ≡ refusing NoHeader 0
+  pub version : check_of (70 ∷ 79 ∷ 82 ∷ 49 ∷ 0 ∷ 0 ∷ 0 ∷ 4 ∷ 73 ∷ 76 ∷ 66 ∷ 77 ∷ []) ≡ refusing VersionName 0
+  pub cut_short : check_of (70 ∷ 79 ∷ 82 ∷ 77 ∷ 0 ∷ 0 ∷ 0 ∷ 4 ∷ 73 ∷ 76 ∷ 66 ∷ []) ≡ refusing SizeTooGreat 0
+  pub one_byte_inside : check_of (70 ∷ 79 ∷ 82 ∷ 77 ∷ 0 ∷ 0 ∷ 0 ∷ 5 ∷ 73 ∷ 76 ∷ 66 ∷ 77 ∷ 0 ∷ 0 ∷ []) ≡ refusing HeaderCut 12
   pub second_prop_lem :
       check_of
       (76 ∷ 73 ∷ 83 ∷ 84 ∷ 0 ∷ 0 ∷ 0 ∷ 28 ∷ 74 ∷ 74 ∷ 74 ∷ 74 ∷
       80 ∷ 82 ∷ 79 ∷ 80 ∷ 0 ∷ 0 ∷ 0 ∷ 4 ∷ 73 ∷ 76 ∷ 66 ∷ 77 ∷
       80 ∷ 82 ∷ 79 ∷ 80 ∷ 0 ∷ 0 ∷ 0 ∷ 4 ∷ 73 ∷ 76 ∷ 66 ∷ 77 ∷ [])
-      ≡ Refused 12 24
+      ≡ refusing SecondProp 24
   pub repeated_zeros : row 4 (0xFD ∷ 0x00 ∷ []) ≡ found ((0 ∷ 0 ∷ 0 ∷ 0 ∷ []), 2)
   pub after_nothing : row 4 (0x80 ∷ 0xFD ∷ 0x00 ∷ []) ≡ found ((0 ∷ 0 ∷ 0 ∷ 0 ∷ []), 3)
-  pub repeat_too_long : row 2 (0xFE ∷ 0x07 ∷ []) ≡ refused 27 0
-  pub copy_cut_short : row 2 (0x01 ∷ 0x07 ∷ []) ≡ refused 26 0
+  pub repeat_too_long : row 2 (0xFE ∷ 0x07 ∷ []) ≡ refused RowOverstepped 0
+  pub copy_cut_short : row 2 (0x01 ∷ 0x07 ∷ []) ≡ refused BodyEnds 0
   pub two_equal : packed (0x07 ∷ 0x07 ∷ []) ≡ 0x01 ∷ 0x07 ∷ 0x07 ∷ []
   pub equal_128 : packed (replicate 128 0x07) ≡ 0x81 ∷ 0x07 ∷ []
   pub equal_129 : packed (replicate 129 0x07) ≡ 0x81 ∷ 0x07 ∷ 0x00 ∷ 0x07 ∷ []
   pub equal_131 : packed (replicate 131 0x07) ≡ 0x81 ∷ 0x07 ∷ 0xFE ∷ 0x07 ∷ []
   pub three_colours : body_line (0xA0 ∷ 0x00 ∷ 0x60 ∷ 0x00 ∷ []) 3 2 0 0 0 3 ≡ found (colours, 4)
-  pub written_plain : write_of (three_pixels 0) [] colours [] 52 ≡ Written 52
-  pub written_packed : write_of (three_pixels 1) [] colours [] 54 ≡ Written 54
+  pub written_plain : write_of (three_pixels 0) [] colours [] 52 ≡ Ok 52
+  pub written_packed : write_of (three_pixels 1) [] colours [] 54 ≡ Ok 54
 
-no_header_counts : picture_of form 0 ≡ Picture-refused 21 0
+no_header_counts : picture_of form 0 ≡ refusing NoHeader 0
 unfolding
     read_file chunk_at run header_of group_header_of word well_formed version_name kind_of type_bytes reserved_name type_name contents_from property_of
     last_named bodies_from picture_refusal pick_content

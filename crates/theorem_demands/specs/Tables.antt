@@ -1,22 +1,18 @@
 -- The table of pictures leads to the same answers, so demand 3 and the round trip hold of this way too. Both are proved by going from a
 -- row to the call by number, and from there by the theorem on it.
-use Rattle.std.specs.Prelude.{ℕ, ◌*◌, ◌/◌, ◌<◌, ◌≤◌, ◌≡◌, List, [], length, take}
+use Rattle.std.specs.Prelude.{ℕ, ◌*◌, ◌/◌, ◌<◌, ◌≤◌, ◌≡◌, refl, List, [], length, take, Ok, Err, None}
 use Rattle.std.proofs.Common.{sym, ap, ◌∙◌, arith, le-ltb}
 use Rattle.iff_chunk.specs.Chunks.{Chunk}
 use Rattle.iff_tree.specs.Judge.{found, read_file}
 use Rattle.iff_grammar.specs.Words.{Bytes}
 use Rattle.iff_grammar.proofs.Accept.{sound}
 use Rattle.ilbm_spec.specs.declared.BitmapHeader.{BitmapHeader}
-use Rattle.ilbm_spec.specs.declared.PictureAnswer.TheVariants.{Shown}
-use Rattle.ilbm_spec.specs.declared.LineAnswer.{LineAnswer}
-use Rattle.ilbm_spec.specs.declared.FrameAnswer.{FrameAnswer}
-use Rattle.ilbm_spec.specs.declared.TableAnswer.TheVariants.{Pictures}
+use Rattle.ilbm_spec.specs.declared.Picture.{Picture}
 use Rattle.ilbm_spec.specs.Contents.{contents_of}
 use Rattle.ilbm_spec.specs.Rows.{Read}
 use Rattle.ilbm_spec.specs.Shapes.{Shaped}
 use Rattle.ilbm_spec.specs.Table.{PictureRow, table_of, table_answer, table_after}
 use Rattle.write_form.specs.File.{picture_form, picture_file}
-use Rattle.write_picture.specs.declared.WriteAnswer.TheVariants.{Written}
 use Rattle.write_picture.specs.Write.{write_of, out_after}
 use Rattle.theorem_table.specs.ByTable.{row_at, view_by, properties_by, palette_by, extent_by, palette_triples_by, scan_line_by, frame_by}
 use Rattle.theorem_table.specs.ByTable.{shape_line_by, shape_frame_by, colour_line_by, colour_frame_by, ByTable}
@@ -31,6 +27,7 @@ use Rattle.theorem_roundtrip.specs.Expected.{picture_for, shape_for, colours_for
 use Rattle.theorem_roundtrip.specs.Header.{InRange}
 use Rattle.theorem_roundtrip.specs.RoundTrip.{ReadsBack}
 use Rattle.theorem_roundtrip.proofs.RoundTrip.{round_trip}
+use Rattle.iff_refusal.specs.Numbers.{Answer, refusal_in, number_in}
 
 -- row i of the table of a file's pictures, in a lent one with these numbers
 abbrev pub row_of : List ℕ → List ℕ → ℕ → PictureRow
@@ -38,27 +35,28 @@ row_of s old i = row_at (table_after (table_of s (length old)) old) i
 
 -- A scan line and a frame by a row, for a lent row of bytes or a lent frame, with the shape for two, and in colours: what is told, and the
 -- bytes left there.
-abbrev pub line_by_row : List ℕ → PictureRow → ℕ → List ℕ → LineAnswer × List ℕ
+abbrev pub line_by_row : List ℕ → PictureRow → ℕ → List ℕ → Answer ℕ × List ℕ
 line_by_row s r start row = line_told (scan_line_by s r start (length row)) row
 
-abbrev pub frame_by_row : List ℕ → PictureRow → List ℕ → FrameAnswer × List ℕ
+abbrev pub frame_by_row : List ℕ → PictureRow → List ℕ → Answer ℕ × List ℕ
 frame_by_row s r frame = frame_told (frame_by s r (length frame)) frame
 
-abbrev pub shape_line_by_row : List ℕ → PictureRow → ℕ → List ℕ → List ℕ → LineAnswer × List ℕ × List ℕ
+abbrev pub shape_line_by_row : List ℕ → PictureRow → ℕ → List ℕ → List ℕ → Answer ℕ × List ℕ × List ℕ
 shape_line_by_row s r start row shape = shape_line_told (shape_line_by s r start (length row) (length shape)) row shape
 
-abbrev pub shape_frame_by_row : List ℕ → PictureRow → List ℕ → List ℕ → FrameAnswer × List ℕ × List ℕ
+abbrev pub shape_frame_by_row : List ℕ → PictureRow → List ℕ → List ℕ → Answer ℕ × List ℕ × List ℕ
 shape_frame_by_row s r frame shape = shape_frame_told (shape_frame_by s r (length frame) (length shape)) frame shape
 
-abbrev pub colour_line_by_row : List ℕ → PictureRow → List ℕ → ℕ → List ℕ → LineAnswer × List ℕ
+abbrev pub colour_line_by_row : List ℕ → PictureRow → List ℕ → ℕ → List ℕ → Answer ℕ × List ℕ
 colour_line_by_row s r default start row = line_told (colour_line_by s r default start (length row)) row
 
-abbrev pub colour_frame_by_row : List ℕ → PictureRow → List ℕ → List ℕ → FrameAnswer × List ℕ
+abbrev pub colour_frame_by_row : List ℕ → PictureRow → List ℕ → List ℕ → Answer ℕ × List ℕ
 colour_frame_by_row s r default frame = frame_told (colour_frame_by s r default (length frame)) frame
 
--- Two files whose tables have n rows each, by which every call answers the same but for places that moved.
+-- Two files whose tables have n rows each, with the same answers in them, by which every call answers the same but for places that moved.
 pub record SameByTable (f g old : List ℕ) (move : ℕ → ℕ) (n : ℕ) : Type 0 where
-  pub count : table_answer (table_of g (length old)) ≡ Pictures n
+  pub count : table_answer (table_of g (length old)) ≡ Ok n
+  pub answers : (i : ℕ) → i < n → (row_of g old i).answer ≡ (row_of f old i).answer
   pub views : (i : ℕ) → i < n → view_by g (row_of g old i) ≡ moved_view move (view_by f (row_of f old i))
   pub properties : (i : ℕ) → i < n → properties_by g (row_of g old i) ≡ moved_answer move (properties_by f (row_of f old i))
   pub palettes : (i : ℕ) → i < n → (default : List ℕ) → palette_by g (row_of g old i) default ≡ palette_by f (row_of f old i) default
@@ -80,36 +78,45 @@ pub record SameByTable (f g old : List ℕ) (move : ℕ → ℕ) (n : ℕ) : Typ
   pub triples :
       (i : ℕ) → i < n → (default : List ℕ) → palette_triples_by g (row_of g old i) default ≡ palette_triples_by f (row_of f old i) default
 
-module _ (f g old : List ℕ) (move : ℕ → ℕ) (n : ℕ) (same : SameAnswers f g move) (told : table_answer (table_of f (length old)) ≡ Pictures n)
+-- the number of a picture's refusal, which no move changes
+abbrev number : Answer Picture → ℕ
+number x = number_in (refusal_in x)
+
+number_kept : (move : ℕ → ℕ) (x : Answer Picture) → number (moved_answer move x) ≡ number x
+number_kept move (Ok x) = refl
+number_kept move (Err r) = refl
+
+module _ (f g old : List ℕ) (move : ℕ → ℕ) (n : ℕ) (same : SameAnswers f g move) (told : table_answer (table_of f (length old)) ≡ Ok n)
     (a : ByTable f (table_after (table_of f (length old)) old) n) (b : ByTable g (table_after (table_of g (length old)) old) n) where
   same_by_table : SameByTable f g old move n
   same_by_table =
       record {
         count = same.table_answers (length old) ∙ told;
+        answers = λ i h. b.answers i h ∙ ap number (same.pictures i) ∙ number_kept move _ ∙ sym (a.answers i h);
         views = λ i h. b.views i h ∙ same.views i ∙ ap (moved_view move) (sym (a.views i h));
         properties = λ i h. b.properties i h ∙ same.pictures i ∙ ap (moved_answer move) (sym (a.properties i h));
         palettes = λ i h default. b.palettes i h default ∙ same.palettes i default ∙ sym (a.palettes i h default);
         extents = λ i h. b.extents i h ∙ same.extents i ∙ ap (moved_extent move) (sym (a.extents i h));
         lines = λ i h start row.
-            let told : Read (List ℕ) → LineAnswer × List ℕ = λ x. line_told x row in
+            let told : Read (List ℕ) → Answer ℕ × List ℕ = λ x. line_told x row in
             ap told (b.lines i h start (length row)) ∙ same.lines i start row ∙ sym (ap told (a.lines i h start (length row)));
         frames = λ i h frame.
-            let told : Read (List ℕ) → FrameAnswer × List ℕ = λ x. frame_told x frame in
+            let told : Read (List ℕ) → Answer ℕ × List ℕ = λ x. frame_told x frame in
             ap told (b.frames i h (length frame)) ∙ same.frames i frame ∙ sym (ap told (a.frames i h (length frame)));
         shape_lines = λ i h start row shape.
-            let told : Read Shaped → LineAnswer × List ℕ × List ℕ = λ x. shape_line_told x row shape in
+            let told : Read Shaped → Answer ℕ × List ℕ × List ℕ = λ x. shape_line_told x row shape in
             ap told (b.shape_lines i h start (length row) (length shape)) ∙ same.shape_lines i start row shape ∙
             sym (ap told (a.shape_lines i h start (length row) (length shape)));
         shape_frames = λ i h frame shape.
-            let told : Read Shaped → FrameAnswer × List ℕ × List ℕ = λ x. shape_frame_told x frame shape in
+            let told : Read Shaped → Answer ℕ × List ℕ × List ℕ = λ x. shape_frame_told x frame shape in
             ap told (b.shape_frames i h (length frame) (length shape)) ∙ same.shape_frames i frame shape ∙
             sym (ap told (a.shape_frames i h (length frame) (length shape)));
         colour_lines = λ i h default start row.
-            let told : Read (List ℕ) → LineAnswer × List ℕ = λ x. line_told x row in
+            let told : Read (List ℕ) → Answer ℕ × List ℕ = λ x. line_told x row in
             ap told (b.colour_lines i h default start (length row)) ∙ same.colour_lines i default start row ∙
             sym (ap told (a.colour_lines i h default start (length row)));
         colour_frames = λ i h default frame.
-            let told : Read (List ℕ) → FrameAnswer × List ℕ = λ x. frame_told x frame in
+            let told : Read (List ℕ) → Answer ℕ × List ℕ = λ x. frame_told x frame in
             ap told (b.colour_frames i h default (length frame)) ∙ same.colour_frames i default frame ∙
             sym (ap told (a.colour_frames i h default (length frame)));
         triples = λ i h default. b.triples i h default ∙ same.triples i default ∙ sym (a.triples i h default);
@@ -118,7 +125,7 @@ module _ (f g old : List ℕ) (move : ℕ → ℕ) (n : ℕ) (same : SameAnswers
 -- Demand 3 by the table: of an accepted file and whatever is added.
 pub unchanged :
     (f : List ℕ) → Bytes f → (c : Chunk) → read_file f ≡ found c → (adds : List Addition) → MayAddAll adds c f → (old : List ℕ) (n : ℕ) →
-    table_answer (table_of f (length old)) ≡ Pictures n → SameByTable f (file_after adds c f) old (moved_by adds c) n
+    table_answer (table_of f (length old)) ≡ Ok n → SameByTable f (file_after adds c f) old (moved_by adds c) n
 unchanged f b c e adds may old n told =
     let was = sound f b c e in
     let now = file_after_lem adds c f was.0 was.1 may in
@@ -129,9 +136,9 @@ unchanged f b c e adds may old n told =
 
 -- A written file by its table: one row, and by it the picture, its palette with the triples, its frame, its shape and its colours.
 pub record ReadsBackByTable (s old : List ℕ) (b : BitmapHeader) (palette frame shape : List ℕ) : Type 0 where
-  pub count : table_answer (table_of s (length old)) ≡ Pictures 1
-  pub picture : properties_by s (row_of s old 0) ≡ Shown (picture_for b palette)
-  pub palette_back : palette_by s (row_of s old 0) [] ≡ record { number = 0; place = 0; colours = palette }
+  pub count : table_answer (table_of s (length old)) ≡ Ok 1
+  pub picture : properties_by s (row_of s old 0) ≡ Ok (picture_for b palette)
+  pub palette_back : palette_by s (row_of s old 0) [] ≡ record { refusal = None; colours = palette }
   pub frame_back : frame_by s (row_of s old 0) (b.w * b.h) ≡ found (frame, 0)
   pub shape_back : shape_frame_by s (row_of s old 0) (b.w * b.h) (b.w * b.h) ≡ shape_for b frame shape
   pub colours_back : colour_frame_by s (row_of s old 0) [] (3 * (b.w * b.h)) ≡ colours_for palette frame
@@ -142,7 +149,7 @@ back_by_table :
     ReadsBackByTable s old b palette frame shape
 back_by_table s old b palette frame shape room r =
     let cs = contents_of (picture_form b palette frame shape) in
-    let one : table_answer (table_of s (length old)) ≡ Pictures 1 =
+    let one : table_answer (table_of s (length old)) ≡ Ok 1 =
     rw (r.tree, r.pictures, le-ltb (length old / 30) 1 (omega arith), count_rows cs, r.pictures) in
     let t = tree_by_table s (picture_form b palette frame shape) [] r.grammar old 1 one in
     record {
@@ -157,7 +164,7 @@ back_by_table s old b palette frame shape room r =
 
 -- The round trip by the table: of what the writer leaves, with a lent table that has room for one picture.
 pub written :
-    (b : BitmapHeader) (palette frame shape out : List ℕ) (n : ℕ) → InRange b → write_of b palette frame shape (length out) ≡ Written n →
+    (b : BitmapHeader) (palette frame shape out : List ℕ) (n : ℕ) → InRange b → write_of b palette frame shape (length out) ≡ Ok n →
     (old : List ℕ) → 30 ≤ length old →
     ReadsBackByTable (take n (out_after (write_of b palette frame shape (length out)) (picture_file b palette frame shape) out)) old
     b palette frame shape

@@ -1,13 +1,12 @@
 -- 01: "Reading back, with an empty default palette, gives the same fields but pad1, the same palette and frame." 02, Ask 4: "what it
 -- writes reads back", the shape too. Ask 5: in colours, and the palette as triples. For every header, palette, frame, shape and buffer
 -- that the writer does not refuse, of the file that it leaves in the buffer.
-use Rattle.std.specs.Prelude.{ℕ, zero, suc, ◌-◌, ◌*◌, ◌≡◌, false, List, [], length, take, drop}
+use Rattle.std.specs.Prelude.{ℕ, zero, suc, ◌-◌, ◌*◌, ◌≡◌, false, List, [], length, take, drop, Ok, Result}
 use Rattle.std.proofs.Math.Path.{refl}
 use Rattle.std.proofs.Common.{ap, ◌∙◌, append-nil, take_at, eq-eqb, mul_comm, zero-add, arith}
 use Rattle.iff_chunk.specs.Chunks.{word}
 use Rattle.iff_tree.specs.Judge.{found, refused}
 use Rattle.ilbm_spec.specs.declared.BitmapHeader.{BitmapHeader}
-use Rattle.ilbm_spec.specs.declared.PictureAnswer.TheVariants.{Shown}
 use Rattle.ilbm_spec.specs.Pictures.{Viewed, view_of, pick_content, picture_answer}
 use Rattle.ilbm_spec.specs.Palette.{answer_in}
 use Rattle.ilbm_spec.specs.Rows.{row_length, rows_in_line, Pixels, lines_with, frame_read, frame_of}
@@ -16,8 +15,6 @@ use Rattle.ilbm_spec.specs.Colours.{holds, is_half_bright, number_colour, entry_
 use Rattle.ilbm_spec.specs.Triples.{triples_in, triples_of}
 use Rattle.ilbm_spec.specs.ColoursOfNumbers.{read_as, plain_colour}
 use Rattle.ilbm_spec.proofs.laws.Colours.{colours_of_numbers}
-use Rattle.write_picture.specs.declared.WriteAnswer.{WriteAnswer}
-use Rattle.write_picture.specs.declared.WriteAnswer.TheVariants.{Written}
 use Rattle.write_body.specs.Body.{shape_width, body_lines, body_bytes}
 use Rattle.write_form.specs.File.{picture_file}
 use Rattle.write_picture.specs.Write.{write_of, out_after}
@@ -30,6 +27,8 @@ use Rattle.theorem_roundtrip.proofs.laws.Shapes.{colours_made, shape_made}
 use Rattle.theorem_roundtrip.proofs.laws.Tree.{chunk_file, file_read, file_answered}
 use Rattle.theorem_roundtrip.proofs.laws.Writable.{Writable, written_writable}
 use Rattle.theorem_roundtrip.specs.RoundTrip.{ReadsBack}
+use Rattle.iff_refusal.specs.declared.Reason.TheVariants.{NoPicture}
+use Rattle.iff_refusal.specs.declared.Reason.{Reason}
 
 same_lines :
     (b : BitmapHeader) (frame shape : List ℕ) (lines : ℕ) →
@@ -53,7 +52,7 @@ module _
       let right = no_refusal b palette frame shape room n range may in
       rw (file_read b palette frame shape may.short, one_content b palette frame shape, right)
 
-  no_more : (i : ℕ) → view_of file (suc i) ≡ refused 20 0
+  no_more : (i : ℕ) → view_of file (suc i) ≡ refused NoPicture 0
   unfolding pick_content
   no_more i = rw (file_read b palette frame shape may.short, one_content b palette frame shape)
 
@@ -121,7 +120,7 @@ module _
         tree = file_read b palette frame shape may.short;
         pictures = rw (one_content b palette frame shape);
         others = λ i. no_more i;
-        picture = ap picture_answer view_back ∙ ap Shown (picture_answered b palette frame shape range);
+        picture = ap picture_answer view_back ∙ ap Ok (picture_answered b palette frame shape range);
         palette_back = ap (λ (v : Viewed). answer_in v []) view_back ∙ rw (palette_answered b palette frame shape);
         frame_back = frame_back_lem;
         shape_back = ap (λ (v : Viewed). shape_frame_read v (b.w * b.h) (b.w * b.h)) view_back ∙ shape_read;
@@ -131,11 +130,11 @@ module _
 
 -- What the writer leaves in the buffer, as many bytes as it told, reads as the picture that it was given.
 pub round_trip :
-    (b : BitmapHeader) (palette frame shape out : List ℕ) (n : ℕ) → InRange b → write_of b palette frame shape (length out) ≡ Written n →
+    (b : BitmapHeader) (palette frame shape out : List ℕ) (n : ℕ) → InRange b → write_of b palette frame shape (length out) ≡ Ok n →
     ReadsBack (take n (out_after (write_of b palette frame shape (length out)) (picture_file b palette frame shape) out)) b palette frame shape
 round_trip b palette frame shape out n range e =
     let may = written_writable b palette frame shape (length out) n e in
     let file : List ℕ = picture_file b palette frame shape in
     let s : take n (out_after (write_of b palette frame shape (length out)) file out) ≡ file =
-    ap (λ (a : WriteAnswer). take n (out_after a file out)) e ∙ take_at file (drop n out) n may.size in
+    ap (λ (a : Result ℕ Reason). take n (out_after a file out)) e ∙ take_at file (drop n out) n may.size in
     rw s (file_back b palette frame shape (length out) n range may)

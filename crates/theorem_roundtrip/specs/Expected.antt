@@ -1,5 +1,5 @@
 -- What is told of a file that the writer wrote.
-use Rattle.std.specs.Prelude.{ℕ, List, [], ◌∷◌, pos}
+use Rattle.std.specs.Prelude.{ℕ, List, [], ◌∷◌, pos, None}
 use Rattle.iff_tree.specs.Judge.{found}
 use Rattle.ilbm_spec.specs.declared.Origin.{Origin}
 use Rattle.ilbm_spec.specs.declared.Origin.TheVariants.{Own, Absent}
@@ -49,4 +49,4 @@ colours_for palette frame = found (each_colour (entry_at palette) frame, 0)
 
 -- the triples: "its palette's first 64"
 abbrev pub triples_for : List ℕ → Triples
-triples_for palette = record { number = 0; place = 0; triples = triples_from 0 64 (entry_at palette) }
+triples_for palette = record { refusal = None; triples = triples_from 0 64 (entry_at palette) }

@@ -1,7 +1,6 @@
 -- The header is read back as it was written, but for pad1: two bytes give back a 16-bit number, and its sign.
 use Rattle.std.specs.Prelude.{◌<◌, ℤ, pos, negsuc}
 use Rattle.ilbm_spec.specs.declared.BitmapHeader.{BitmapHeader}
-use Rattle.ilbm_spec.specs.Pictures.{signed}
 
 -- a signed number of 16 bits
 abbrev pub Short : ℤ → Type 0

@@ -1,5 +1,5 @@
 -- What a caller does with the table of a file's pictures: it reads a row, and with it the parts of the file that the row tells.
-use Rattle.std.specs.Prelude.{ℕ, ◌+◌, ◌-◌, ◌*◌, ◌<◌, ◌≤◌, ◌≡◌, List, [], ◌∷◌, eqb, length, get_or, replicate}
+use Rattle.std.specs.Prelude.{ℕ, ◌+◌, ◌-◌, ◌*◌, ◌<◌, ◌≤◌, ◌≡◌, List, [], ◌∷◌, eqb, length, get_or, replicate, Ok, Some, None}
 use Rattle.std.proofs.Math.Seq.{slice}
 use Rattle.iff_name.specs.Name.{pick}
 use Rattle.iff_chunk.specs.Chunks.{word}
@@ -8,16 +8,17 @@ use Rattle.ilbm_spec.specs.declared.Origin.{Origin}
 use Rattle.ilbm_spec.specs.declared.Origin.TheVariants.{Own, Shared, Absent}
 use Rattle.ilbm_spec.specs.declared.BitmapHeader.{BitmapHeader}
 use Rattle.ilbm_spec.specs.declared.Picture.{Picture}
-use Rattle.ilbm_spec.specs.declared.PictureAnswer.{PictureAnswer}
-use Rattle.ilbm_spec.specs.declared.PictureAnswer.TheVariants.{Shown, Refused}
 use Rattle.ilbm_spec.specs.Contents.{Located, located, Property, own, shared, absent, Content}
 use Rattle.ilbm_spec.specs.Pictures.{u16, header_in, hot_spot_in, destination_in, Viewed, view_of, picture_of}
-use Rattle.ilbm_spec.specs.Palette.{Answer, palette_answer, Extent, palette_extent}
+use Rattle.ilbm_spec.specs.Palette.{Palette, palette_answer, Extent, palette_extent}
 use Rattle.ilbm_spec.specs.Rows.{Read, line_in_body, frame_in_body, line_of, frame_of}
 use Rattle.ilbm_spec.specs.Shapes.{Shaped, shape_line_in_body, shape_frame_in_body, shape_line_of, shape_frame_of}
 use Rattle.ilbm_spec.specs.Colours.{colour_line_in_body, colour_frame_in_body, colour_line_of, colour_frame_of}
 use Rattle.ilbm_spec.specs.Triples.{triples_by, Triples, triples_of}
 use Rattle.ilbm_spec.specs.Table.{PropertyRow, BodyRow, PictureRow, table_of}
+use Rattle.iff_refusal.specs.declared.Reason.TheVariants.{NoPicture, NoBody}
+use Rattle.iff_refusal.specs.declared.Reason.{Reason}
+use Rattle.iff_refusal.specs.Numbers.{Answer, refusal, refusing, refusal_in, number_in, reason_of}
 
 -- A property's four numbers, from the k-th of a row on.
 abbrev pub property_in : (ℕ → ℕ) → ℕ → PropertyRow
@@ -63,8 +64,8 @@ abbrev pub colours_by : List ℕ → PictureRow → List ℕ → List ℕ
 colours_by s r default = pick (eqb r.cmap.origin 0) default (data_by s r.cmap)
 
 -- what is told by a row, or its refusal
-abbrev pub unless_refused : {A : Type 0} → PictureRow → A → (ℕ → ℕ → A) → A
-unless_refused r shown refusal = pick (eqb r.answer 0) shown (refusal r.answer 0)
+abbrev pub unless_refused : {A : Type 0} → PictureRow → A → (Reason → ℕ → A) → A
+unless_refused r shown refused_by = pick (eqb r.answer 0) shown (refused_by (reason_of r.answer) 0)
 
 -- the origin that a property's first two numbers tell
 abbrev pub origin_by : PropertyRow → Origin
@@ -87,14 +88,14 @@ picture_by s r =
       view_mode_from = origin_by r.camg;
     }
 
-abbrev pub properties_by : List ℕ → PictureRow → PictureAnswer
-properties_by s r = unless_refused r (Shown (picture_by s r)) Refused
+abbrev pub properties_by : List ℕ → PictureRow → Answer Picture
+properties_by s r = unless_refused r (Ok (picture_by s r)) refusing
 
 -- The palette, where it lies, and its triples.
-abbrev pub palette_by : List ℕ → PictureRow → List ℕ → Answer
+abbrev pub palette_by : List ℕ → PictureRow → List ℕ → Palette
 palette_by s r default =
-    unless_refused r (record { number = 0; place = 0; colours = colours_by s r default })
-    (λ k p. record { number = k; place = p; colours = [] })
+    unless_refused r (record { refusal = None; colours = colours_by s r default })
+    (λ k p. record { refusal = Some (refusal k p); colours = [] })
 
 abbrev pub extent_by : PictureRow → Extent
 extent_by r = record { from = r.cmap.from; to = r.cmap.to }
@@ -102,12 +103,12 @@ extent_by r = record { from = r.cmap.from; to = r.cmap.to }
 abbrev pub palette_triples_by : List ℕ → PictureRow → List ℕ → Triples
 palette_triples_by s r default =
     unless_refused r
-    (record { number = 0; place = 0; triples = triples_by (mode_by s r) (header_by s r).planes (colours_by s r default) })
-    (λ k p. record { number = k; place = p; triples = replicate 64 (0 ∷ 0 ∷ 0 ∷ []) })
+    (record { refusal = None; triples = triples_by (mode_by s r) (header_by s r).planes (colours_by s r default) })
+    (λ k p. record { refusal = Some (refusal k p); triples = replicate 64 (0 ∷ 0 ∷ 0 ∷ []) })
 
 -- Rows: the row's refusal, 25 with no BODY, and otherwise what is read of the BODY's part of the file by the header's fields.
 abbrev pub rows_by : {A : Type 0} → PictureRow → Read A → Read A
-rows_by r rows = unless_refused r (pick (eqb r.body.there 0) (refused 25 0) rows) refused
+rows_by r rows = unless_refused r (pick (eqb r.body.there 0) (refused NoBody 0) rows) refused
 
 abbrev pub scan_line_by : List ℕ → PictureRow → ℕ → ℕ → Read (List ℕ)
 scan_line_by s r start room =
@@ -189,8 +190,9 @@ pub record Parts (s : List ℕ) (r : PictureRow) : Type 0 where
 -- A table that tells so many pictures of the file s gives of each, with the bytes of the file, what the calls by its number tell: all that
 -- they look at, and so the properties, the palette, where it lies and its triples; with the calls on a BODY by itself each scan line and
 -- the frame, with their shapes too and in colours; each refusal too. There are no more pictures. All parts that it tells lie in the file,
--- and the BMHD of a shown picture has its 20 bytes.
+-- and the BMHD of a shown picture has its 20 bytes. The number in a row is that of the picture's refusal, 0 for none.
 pub record ByTable (s table : List ℕ) (count : ℕ) : Type 0 where
+  pub answers : (i : ℕ) → i < count → (row_at table i).answer ≡ number_in (refusal_in (picture_of s i))
   pub views : (i : ℕ) → i < count → view_by s (row_at table i) ≡ view_of s i
   pub properties : (i : ℕ) → i < count → properties_by s (row_at table i) ≡ picture_of s i
   pub palettes : (i : ℕ) → i < count → (default : List ℕ) → palette_by s (row_at table i) default ≡ palette_answer s i default
@@ -208,11 +210,11 @@ pub record ByTable (s table : List ℕ) (count : ℕ) : Type 0 where
   pub colour_frames :
       (i : ℕ) → i < count → (default : List ℕ) (room : ℕ) → colour_frame_by s (row_at table i) default room ≡ colour_frame_of s i default room
   pub triples : (i : ℕ) → i < count → (default : List ℕ) → palette_triples_by s (row_at table i) default ≡ triples_of s i default
-  pub none : (i : ℕ) → count ≤ i → view_of s i ≡ refused 20 0
+  pub none : (i : ℕ) → count ≤ i → view_of s i ≡ refused NoPicture 0
   pub parts : (i : ℕ) → i < count → Parts s (row_at table i)
   pub headers : (i : ℕ) → i < count → (row_at table i).answer ≡ 0 → length (data_by s (row_at table i).bmhd) ≡ 20
 
 -- A file that is refused gives its refusal to the table and to each picture asked for by number, and so to each call on it.
-pub record RefusedBoth (s : List ℕ) (k p : ℕ) : Type 0 where
+pub record RefusedBoth (s : List ℕ) (k : Reason) (p : ℕ) : Type 0 where
   pub tables : (room : ℕ) → table_of s room ≡ refused k p
   pub views : (i : ℕ) → view_of s i ≡ refused k p

@@ -10,9 +10,6 @@ use Rattle.write_plane_row.proofs.Buffers.{Split, split_length}
 pub record Counting (all : List ℕ) (total : ℕ) (rest : List ℕ) : Type 0 where
   pub is : length all ≡ total + length rest
 
-pub counting_none : (all rest : List ℕ) → rest ≡ all → Counting all 0 rest
-counting_none all rest e = let l = ap (λ (q : List ℕ). length q) e in record { is = omega arith }
-
 module _ (all : List ℕ) (total : ℕ) (rest : List ℕ) (c : Counting all total rest) where
   pub counting_more : (part more : List ℕ) → Split rest part more → (r : ℕ) → r ≡ length part → Counting all (total + r) more
   counting_more part more e r d = record { is = omega (arith, c.is, split_length rest part more e) }

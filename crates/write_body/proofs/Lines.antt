@@ -13,7 +13,7 @@ use Rattle.write_body.specs.Body.{line_rows}
 use Rattle.write_plane_row.proofs.Buffers.{Split}
 use Rattle.write_plane_row.proofs.Planes.{row_length_lem}
 
-pub power_more : (k v : ℕ) → v ≡ 2 ^ k → v * 2 ≡ 2 ^ (k + 1)
+power_more : (k v : ℕ) → v ≡ 2 ^ k → v * 2 ≡ 2 ^ (k + 1)
 power_more k v e = rw (add-one, pow-suc 2 k, e)
 
 module _ (compression n : ℕ) (line : List ℕ) where
@@ -24,9 +24,6 @@ module _ (compression n : ℕ) (line : List ℕ) where
   -- plane k and those after it
   abbrev pub rows_from : ℕ → ℕ → List ℕ
   rows_from planes k = line_rows compression n line (2 ^ k) (planes - k)
-
-  pub rows_all : (planes : ℕ) → rows_from planes 0 ≡ line_rows compression n line 1 planes
-  rows_all planes = let e : planes - 0 ≡ planes = omega arith in rw e
 
   pub rows_step : (planes k : ℕ) → k < planes → Split (rows_from planes k) (row_bytes k) (rows_from planes (k + 1))
   unfolding line_rows

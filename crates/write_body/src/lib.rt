@@ -44,10 +44,8 @@ fn line_len(compression: u8, n: usize, line: &[u8], planes: usize) -> usize
     ensures short { result ≤ 66048 }
 {
     let mut total = 0;
-    let mut k = 0;
-    while k < planes {
-        total = total + row_len(compression, line, k, n);
-        k += 1;
+    for k in 0..planes {
+        total += row_len(compression, line, k, n);
     }
     total
 }
@@ -110,10 +108,8 @@ fn put_line(
     ensures bytes { out.new ≡ put out.old at (line_rows compression n line.now 1 planes) }
 {
     let mut q = at;
-    let mut k = 0;
-    while k < planes {
-        q = q + put_row(compression, line, k, n, out, q);
-        k += 1;
+    for k in 0..planes {
+        q += put_row(compression, line, k, n, out, q);
     }
     q
 }
@@ -183,16 +179,10 @@ pub fn body_len(b: BitmapHeader, frame: &[u8], shape: &[u8]) -> usize
     let h = b.h as usize;
     let shape_w = shape_width(b);
     let mut total = 0;
-    let mut at = 0;
-    let mut shape_at = 0;
-    let mut y = 0;
-    while y < h {
-        let end = at + w;
-        let shape_end = shape_at + shape_w;
-        total = total + shaped_line_len(b, &frame[at..end], &shape[shape_at..shape_end]);
-        at = end;
-        shape_at = shape_end;
-        y += 1;
+    for y in 0..h {
+        let line = &frame[y * w..y * w + w];
+        let mask = &shape[y * shape_w..y * shape_w + shape_w];
+        total += shaped_line_len(b, line, mask);
     }
     total
 }
@@ -208,16 +198,10 @@ pub fn put_body(b: BitmapHeader, frame: &[u8], shape: &[u8], out: &mut [u8], pla
     let h = b.h as usize;
     let shape_w = shape_width(b);
     let mut q = place;
-    let mut at = 0;
-    let mut shape_at = 0;
-    let mut y = 0;
-    while y < h {
-        let end = at + w;
-        let shape_end = shape_at + shape_w;
-        q = put_shaped_line(b, &frame[at..end], &shape[shape_at..shape_end], out, q);
-        at = end;
-        shape_at = shape_end;
-        y += 1;
+    for y in 0..h {
+        let line = &frame[y * w..y * w + w];
+        let mask = &shape[y * shape_w..y * shape_w + shape_w];
+        q = put_shaped_line(b, line, mask, out, q);
     }
     q
 }

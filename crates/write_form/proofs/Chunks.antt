@@ -1,5 +1,5 @@
 -- The chunks of the file: each is put by a few stores or copies, one behind the other.
-use Prim.Native.Nat.{ℕ, zero, suc, ◌+◌, ◌-◌, ◌/◌, ◌%◌, ◌≤◌, ◌<◌}
+use Prim.Native.Nat.{ℕ, zero, suc, ◌+◌, ◌%◌, ◌≤◌, ◌<◌}
 use mathlib.Core.Path.{◌≡◌, refl, sym, ap, ◌∙◌}
 use mathlib.Core.List.{List, [], ◌∷◌, ◌++◌, append_assoc}
 use lib.ListN.{length, take, drop, set, replicate, length-append, length-replicate}
@@ -13,7 +13,7 @@ use Rattle.ilbm_spec.specs.Names.{ILBM, BMHD, CMAP}
 use Rattle.write_plane_row.specs.Put.{put}
 use Rattle.write_form.specs.Parts.{chunk_head, palette_chunk, type_and_header, palette_size}
 use Rattle.write_form.specs.laws.Parts.{header_length}
-use Rattle.write_form.specs.File.{header_bytes, unsigned}
+use Rattle.write_form.specs.File.{header_bytes}
 use Rattle.write_plane_row.proofs.Buffers.{put_none, put_next, put_put}
 
 -- a copy of all of a slice
@@ -39,17 +39,6 @@ header_put b out first middle after head l d m e f =
     m ∙ rw d (put_put out 8 (put_word ILBM []) (chunk_head BMHD 20) (omega arith)) in
     let last : after ≡ put middle 20 (header_bytes b) = f ∙ rw e (paste_put middle (header_bytes b) 20 20 n) in
     last ∙ rw both (put_put out 8 (put_word ILBM (chunk_head BMHD 20)) (header_bytes b) (omega arith))
-
-pub header_is :
-    (b : BitmapHeader) (x y pw ph a₁ a₂ a₃ a₄ a₅ a₆ a₇ a₈ a₉ a₁₀ a₁₁ a₁₂ a₁₃ a₁₄ : ℕ) → a₁ ≡ b.w / 256 → a₂ ≡ b.w % 256 → a₃ ≡ b.h / 256 →
-    a₄ ≡ b.h % 256 → a₅ ≡ x / 256 → a₆ ≡ x % 256 → x ≡ unsigned b.x → a₇ ≡ y / 256 → a₈ ≡ y % 256 → y ≡ unsigned b.y →
-    a₉ ≡ b.transparent / 256 → a₁₀ ≡ b.transparent % 256 → a₁₁ ≡ pw / 256 → a₁₂ ≡ pw % 256 → pw ≡ unsigned b.page_width →
-    a₁₃ ≡ ph / 256 → a₁₄ ≡ ph % 256 → ph ≡ unsigned b.page_height →
-    ◌≡◌ {A = List ℕ}
-    (a₁ ∷ a₂ ∷ a₃ ∷ a₄ ∷ a₅ ∷ a₆ ∷ a₇ ∷ a₈ ∷ b.planes ∷ b.masking ∷ b.compression ∷ 0 ∷ a₉ ∷ a₁₀ ∷ b.x_aspect ∷ b.y_aspect ∷ a₁₁ ∷ a₁₂ ∷ a₁₃ ∷ a₁₄ ∷ [])
-    (header_bytes b)
-unfolding header_bytes
-header_is b x y pw ph a₁ a₂ a₃ a₄ a₅ a₆ a₇ a₈ a₉ a₁₀ a₁₁ a₁₂ a₁₃ a₁₄ e₁ e₂ e₃ e₄ e₅ e₆ ex e₇ e₈ ey e₉ e₁₀ e₁₁ e₁₂ ew e₁₃ e₁₄ eh = cc
 
 pub pad_odd : (n at : ℕ) (out : List ℕ) → n % 2 ≡ 1 → at + n % 2 ≤ length out → set out at 0 ≡ put out at (replicate (n % 2) 0)
 pad_odd n at out e h =
@@ -98,4 +87,4 @@ palette_put palette out one two three e h p q r =
     r ∙ rw (second, at) (put_put out 40 (chunk_head CMAP (length palette) ++ palette) (replicate (length palette % 2) 0) (omega arith)) in
     third ∙ ap (λ (l : List ℕ). put out 40 l) (append_assoc (chunk_head CMAP (length palette)) palette (replicate (length palette % 2) 0) ∙ sym (some_chunk palette e))
 
-pub ruleset chunk_laws = (word_put, head_put, header_is, header_put, pad_odd, pad_even, no_palette, some_palette, palette_none, palette_put)
+pub ruleset chunk_laws = (word_put, head_put, header_put, pad_odd, pad_even, no_palette, some_palette, palette_none, palette_put)

@@ -1,10 +1,10 @@
 -- The parts of the written file in their order, and their lengths: what the code settles before it writes, and what it writes.
 use Rattle.std.specs.Prelude.{ℕ, ◌+◌, ◌%◌, List, [], ◌∷◌, ◌++◌, eqb, length}
 use Rattle.iff_name.specs.Name.{pick}
-use Rattle.iff_chunk.specs.Chunks.{put_word, bytes}
+use Rattle.iff_chunk.specs.Chunks.{put_word}
 use Rattle.ilbm_spec.specs.declared.BitmapHeader.{BitmapHeader}
 use Rattle.iff_name.specs.Codes.{FORM}
-use Rattle.ilbm_spec.specs.Names.{ILBM, BMHD, CMAP, BODY}
+use Rattle.ilbm_spec.specs.Names.{ILBM, BMHD, CMAP}
 use Rattle.write_form.specs.File.{header_bytes, pad_of}
 
 -- the header of a chunk

@@ -22,71 +22,38 @@ const CMAP: usize = ilbm_names::CMAP.code as usize;
 
 const BODY: usize = ilbm_names::BODY.code as usize;
 
-// The bytes of a number of 32 bits.
-fn word_bytes(v: usize) -> [u8; 4]
-    requires { v < 4294967296 }
-    ensures { result ≡ put_word v [] }
-{
-    [
-        (v / 16777216) as u8,
-        (v / 65536 % 256) as u8,
-        (v / 256 % 256) as u8,
-        (v % 256) as u8,
-    ]
-}
-
-// The 16-bit number that is read as this signed one.
-fn unsigned(x: i16) -> u16
-    ensures { result ≡ unsigned x }
-{
-    if x < 0 {
-        let m = -1 - x;
-        return 65535 - (m as u16);
-    }
-    x as u16
-}
-
-fn high(v: u16) -> u8
-    ensures { result ≡ v / 256 }
-{
-    (v / 256) as u8
-}
-
-fn low(v: u16) -> u8
-    ensures { result ≡ v % 256 }
-{
-    (v % 256) as u8
-}
-
 // The bytes of BMHD.
 fn header_bytes(b: BitmapHeader) -> [u8; 20]
     ensures { result ≡ header_bytes b }
 {
-    let x = unsigned(b.x);
-    let y = unsigned(b.y);
-    let page_width = unsigned(b.page_width);
-    let page_height = unsigned(b.page_height);
+    let [w0, w1] = b.w.to_be_bytes();
+    let [h0, h1] = b.h.to_be_bytes();
+    let [x0, x1] = b.x.to_be_bytes();
+    let [y0, y1] = b.y.to_be_bytes();
+    let [transparent0, transparent1] = b.transparent.to_be_bytes();
+    let [page_width0, page_width1] = b.page_width.to_be_bytes();
+    let [page_height0, page_height1] = b.page_height.to_be_bytes();
     [
-        high(b.w),
-        low(b.w),
-        high(b.h),
-        low(b.h),
-        high(x),
-        low(x),
-        high(y),
-        low(y),
+        w0,
+        w1,
+        h0,
+        h1,
+        x0,
+        x1,
+        y0,
+        y1,
         b.planes,
         b.masking,
         b.compression,
         0,
-        high(b.transparent),
-        low(b.transparent),
+        transparent0,
+        transparent1,
         b.x_aspect,
         b.y_aspect,
-        high(page_width),
-        low(page_width),
-        high(page_height),
-        low(page_height),
+        page_width0,
+        page_width1,
+        page_height0,
+        page_height1,
     ]
 }
 
@@ -95,8 +62,7 @@ fn put_word(v: usize, out: &mut [u8], at: usize)
     requires { (v < 4294967296) × (at + 4 ≤ length out.old) }
     ensures { out.new ≡ put out.old at (put_word v []) }
 {
-    let word = word_bytes(v);
-    byterun_copy::copy_run(&word, 0, out, at, 4);
+    out[at..at + 4].copy_from_slice(&(v as u32).to_be_bytes());
 }
 
 // Writes the header of a chunk.

@@ -4,8 +4,10 @@ use Rattle.iff_name.specs.Name.{either, pick}
 use Rattle.ilbm_spec.specs.declared.BitmapHeader.{BitmapHeader}
 use Rattle.write_body.specs.Body.{shape_width}
 use Rattle.write_form.specs.File.{picture_file}
-use Rattle.write_picture.specs.declared.WriteAnswer.{WriteAnswer}
-use Rattle.write_picture.specs.declared.WriteAnswer.TheVariants.{Written, Refused}
+use Rattle.iff_refusal.specs.declared.Reason.TheVariants.{NoRoom, WrongFields, ColourTooGreat, ResultTooLong, WrongShape}
+use Rattle.iff_refusal.specs.declared.Reason.{Reason}
+use Rattle.iff_refusal.specs.Numbers.{number_of}
+use Rattle.std.specs.Prelude.{Ok, Err, Result}
 
 -- 33: "w or h 0, nPlanes outside 1 to 8, masking .. over 3, compression over 1, palette not a multiple of 3 or over 768 bytes, frame
 -- not w times h", of the lengths of the palette and of the frame; masking 1 is what "01's refusal 33 no longer bars"
@@ -32,26 +34,26 @@ unfoldable pub wrong_shape : BitmapHeader → List ℕ → Bool
 wrong_shape b shape = either (not (eqb (length shape) (shape_width b * b.h))) (colour_over 2 shape)
 
 -- 35: "result over 16,777,216 bytes"; 32: "the result is longer than the lent buffer"; "Success returns the length."
-abbrev pub answer_for : ℕ → ℕ → WriteAnswer
-answer_for size room = pick (ltb 16777216 size) (Refused 35) (pick (ltb room size) (Refused 32) (Written size))
+abbrev pub answer_for : ℕ → ℕ → Result ℕ Reason
+answer_for size room = pick (ltb 16777216 size) (Err ResultTooLong) (pick (ltb room size) (Err NoRoom) (Ok size))
 
 -- "Refusals in order: 33 .., 34 .., 35 .., 32" and "45 after 34", for a buffer of so many bytes
-abbrev pub write_of : BitmapHeader → List ℕ → List ℕ → List ℕ → ℕ → WriteAnswer
+abbrev pub write_of : BitmapHeader → List ℕ → List ℕ → List ℕ → ℕ → Result ℕ Reason
 write_of b palette frame shape room =
-    pick (wrong_fields b (length palette) (length frame)) (Refused 33)
-    (pick (colour_over (2 ^ b.planes) frame) (Refused 34)
-    (pick (wrong_shape b shape) (Refused 45)
+    pick (wrong_fields b (length palette) (length frame)) (Err WrongFields)
+    (pick (colour_over (2 ^ b.planes) frame) (Err ColourTooGreat)
+    (pick (wrong_shape b shape) (Err WrongShape)
     (answer_for (length (picture_file b palette frame shape)) room)))
 
 -- the buffer after an answer: the file and what stood after it, or as it was
-abbrev pub out_after : WriteAnswer → List ℕ → List ℕ → List ℕ
-out_after (Written n) file out = file ++ drop n out
-out_after (Refused k) file out = out
+abbrev pub out_after : Result ℕ Reason → List ℕ → List ℕ → List ℕ
+out_after (Ok n) file out = file ++ drop n out
+out_after (Err k) file out = out
 
-abbrev pub write_number : WriteAnswer → ℕ
-write_number (Written n) = 0
-write_number (Refused k) = k
+abbrev pub write_number : Result ℕ Reason → ℕ
+write_number (Ok n) = 0
+write_number (Err k) = number_of k
 
-abbrev pub length_of : WriteAnswer → ℕ
-length_of (Written n) = n
-length_of (Refused k) = 0
+abbrev pub length_of : Result ℕ Reason → ℕ
+length_of (Ok n) = n
+length_of (Err k) = 0

@@ -5,16 +5,10 @@ ghost use Rattle.std.specs.Prelude.{◌≡◌, ◌^◌, ◌≤◌, length};
 ghost use Rattle.write_form.specs.File.{picture_file};
 ghost use Rattle.write_picture.specs.Write.{wrong_fields, colour_over, wrong_shape, write_of, out_after};
 
+use iff_refusal::Reason;
 use ilbm_spec::BitmapHeader;
 use write_body::shape_width;
 use write_form::{file_sizes, put_file};
-
-// The length of the written file, or the number of a refusal.
-#[derive(Clone, Copy)]
-pub enum WriteAnswer {
-    Written(usize),
-    Refused(usize),
-}
 
 // 33, for a palette and a frame of so many bytes.
 fn wrong_fields(b: BitmapHeader, palette: usize, frame: usize) -> bool
@@ -47,39 +41,11 @@ fn wrong_fields(b: BitmapHeader, palette: usize, frame: usize) -> bool
     frame != (b.w as usize) * (b.h as usize)
 }
 
-// 2^k.
-fn power(k: usize) -> usize
-    requires { k ≤ 8 }
-    ensures { result ≡ 2 ^ k }
-{
-    let mut v = 1;
-    let mut i = 0;
-    while i < k {
-        v = v * 2;
-        i += 1;
-    }
-    v
-}
-
-fn wide(x: u8) -> usize
-    ensures { result ≡ x }
-{
-    x as usize
-}
-
 // Whether a colour number is too high.
 fn colour_over(most: usize, frame: &[u8]) -> bool
     ensures { result ≡ colour_over most frame.now }
 {
-    let mut i = 0;
-    while i < frame.len() {
-        let c = wide(frame[i]);
-        if most <= c {
-            return true;
-        }
-        i += 1;
-    }
-    false
+    frame.iter().any(|c| most <= usize::from(*c))
 }
 
 // 45: a shape of another length than the masking wants, or with a byte over 1.
@@ -99,7 +65,7 @@ pub fn write_picture(
     frame: &[u8],
     shape: &[u8],
     out: &mut [u8],
-) -> WriteAnswer
+) -> Result<usize, Reason>
     ensures is { result
         ≡ write_of header palette.now frame.now shape.now (length out.old) }
     ensures bytes { out.new
@@ -107,22 +73,22 @@ pub fn write_picture(
         (picture_file header palette.now frame.now shape.now) out.old }
 {
     if wrong_fields(header, palette.len(), frame.len()) {
-        return WriteAnswer::Refused(33);
+        return Err(Reason::WrongFields);
     }
-    if colour_over(power(header.planes as usize), frame) {
-        return WriteAnswer::Refused(34);
+    if colour_over(2usize.pow(u32::from(header.planes)), frame) {
+        return Err(Reason::ColourTooGreat);
     }
     if wrong_shape(header, shape) {
-        return WriteAnswer::Refused(45);
+        return Err(Reason::WrongShape);
     }
     let sizes = file_sizes(header, palette, frame, shape);
     let size = sizes.file;
     if 16777216 < size {
-        return WriteAnswer::Refused(35);
+        return Err(Reason::ResultTooLong);
     }
     if out.len() < size {
-        return WriteAnswer::Refused(32);
+        return Err(Reason::NoRoom);
     }
     put_file(header, palette, frame, shape, sizes.body, out);
-    WriteAnswer::Written(size)
+    Ok(size)
 }

@@ -36,39 +36,31 @@ row_snoc weight line j (suc n) =
     ap (λ (l : List ℕ). plane_byte weight line j ∷ l) (row_snoc weight line (j + 1) n ∙ ap (λ (m : ℕ). plane_row weight line (j + 1) n ++ (plane_byte weight line m ∷ [])) e)
 
 -- a row whose first j bytes are written at a place
-pub record Filled (weight : ℕ) (line old out : List ℕ) (at j n : ℕ) : Type 0 where
-  pub inside : j ≤ n
+pub record Filled (weight : ℕ) (line old out : List ℕ) (at j : ℕ) : Type 0 where
   pub long : length out ≡ length old
   pub bytes : out ≡ put old at (plane_row weight line 0 j)
 
 module _ (weight : ℕ) (line old : List ℕ) (at n : ℕ) where
-  pub filled_none : at + n ≤ length old → Filled weight line old old at 0 n
+  pub filled_none : Filled weight line old old at 0
   unfolding plane_row
-  filled_none h = record { inside = omega arith; long = refl; bytes = sym (put_none old at) }
+  filled_none = record { long = refl; bytes = sym (put_none old at) }
 
-  pub filled_room : (out : List ℕ) (j : ℕ) → Filled weight line old out at j n → j < n → at + n ≤ length old → at + j < length out
+  pub filled_room : (out : List ℕ) (j : ℕ) → Filled weight line old out at j → j < n → at + n ≤ length old → at + j < length out
   filled_room out j f h l = rw f.long (omega arith)
 
   pub filled_more :
-      (out : List ℕ) (j v : ℕ) → Filled weight line old out at j n → j < n → at + n ≤ length old → v ≡ plane_byte weight line j →
-      Filled weight line old (set out (at + j) v) at (j + 1) n
+      (out : List ℕ) (j v : ℕ) → Filled weight line old out at j → j < n → at + n ≤ length old → v ≡ plane_byte weight line j →
+      Filled weight line old (set out (at + j) v) at (j + 1)
   filled_more out j v f h l e =
       let row : List ℕ = plane_row weight line 0 j in
       let z : plane_row weight line 0 (j + 1) ≡ row ++ (v ∷ []) = rw (add-one, row_snoc weight line 0 j, zero-add j, e) in
       let m : length row ≡ j = row_length_lem weight line 0 j in
       record {
-        inside = omega arith;
         long = length-set out (at + j) v ∙ f.long;
         bytes = rw (f.bytes, z) (ap (λ (k : ℕ). set (put old at row) (at + k) v) (sym m) ∙ put_next old at row v (omega arith));
       }
 
-  pub filled_same : (out : List ℕ) (j : ℕ) → Filled weight line old out at j n → length out ≡ length old
+  pub filled_same : (out : List ℕ) (j : ℕ) → Filled weight line old out at j → length out ≡ length old
   filled_same out j f = f.long
 
-  pub filled_all : (out : List ℕ) (j : ℕ) → Filled weight line old out at j n → n ≤ j → out ≡ put old at (plane_row weight line 0 n)
-  filled_all out j f h =
-      let a = f.inside in
-      let z : j ≡ n = omega arith in
-      rw z at f.bytes
-
-pub ruleset row_laws = (beyond_line, bits_are, byte_is, filled_none, filled_room, filled_more, filled_same, filled_all)
+pub ruleset row_laws = (beyond_line, bits_are, byte_is, filled_none, filled_room, filled_more, filled_same)

@@ -79,9 +79,7 @@ pub fn plane_row(line: &[u8], k: usize, n: usize, out: &mut [u8], at: usize)
     requires { (k < 8) × (n ≤ 8192) × (at + n ≤ length out.old) }
     ensures { out.new ≡ put out.old at (plane_row (2 ^ k) line.now 0 n) }
 {
-    let mut j = 0;
-    while j < n {
+    for j in 0..n {
         out[at + j] = plane_byte(line, k, j);
-        j += 1;
     }
 }

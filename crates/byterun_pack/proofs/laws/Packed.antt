@@ -1,6 +1,6 @@
 -- What the rule gives: each piece takes at least one byte of the row, and stands for just the bytes that it takes. So the packed row unpacks
 -- to the row, and it is longer only by one byte for each full literal, since a shorter one is followed by a repeat, which saves a byte.
-use Rattle.std.specs.Prelude.{ℕ, zero, suc, ◌+◌, ◌-◌, ◌/◌, ◌<◌, ◌≤◌, ◌≡◌, refl, List, [], ◌∷◌, ◌++◌, Bool, true, false, length, get_or, take, drop, replicate, ltb, eqb}
+use Rattle.std.specs.Prelude.{ℕ, zero, suc, ◌+◌, ◌-◌, ◌<◌, ◌≤◌, ◌≡◌, refl, List, [], ◌∷◌, ◌++◌, Bool, true, false, length, get_or, take, drop, replicate, ltb, eqb}
 use Rattle.std.proofs.Common.{sym, ap, ◌∙◌, length-append, length-drop, take-append-drop, length-take-le, lt-ltb, le-ltb, ltb-true, ltb-false, eqb-true, eq-eqb, arith}
 use Rattle.iff_name.specs.Name.{pick}
 use Rattle.byterun_row.specs.Packing.{Packs}

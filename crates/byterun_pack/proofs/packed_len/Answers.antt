@@ -1,8 +1,7 @@
 -- `packed_len` meets its contract. The loop's invariant: the bytes counted, and the packed length of what is left of the row, are the whole
 -- length; the measure is what is left of the row.
-use Prim.Native.Nat.{◌-◌}
 use borrow.Author.Rules.{rules}
-use Rattle.byterun_pack.proofs.Turns.{count_ends, same_fits, same_less, same_counted, plain_fits, plain_less, plain_total_fits, plain_counted}
+use Rattle.byterun_pack.proofs.Turns.{count_ends, same_fits, same_less, same_counted, plain_fits, plain_less, plain_with_code_fits, plain_total_fits, plain_counted}
 use Rattle.byterun_pack.proofs.packed_len.Goals as goal
 
 pub overflow_add-i : goal.overflow_add-i
@@ -18,6 +17,9 @@ loop-i-preserved-then-three_at c =
 
 pub overflow_add-i-else-three_at : goal.overflow_add-i-else-three_at
 overflow_add-i-else-three_at c = search (plain_fits, rules)
+
+pub overflow_add-total-else-three_at : goal.overflow_add-total-else-three_at
+overflow_add-total-else-three_at c = search (plain_with_code_fits, rules)
 
 pub overflow_add-total-else-three_at-2 : goal.overflow_add-total-else-three_at-2
 overflow_add-total-else-three_at-2 c = search (plain_total_fits, rules)

@@ -1,6 +1,5 @@
 -- `plain_at` meets its contract. The loop's invariant: n bytes, and those that follow before three equal ones, are all; the measure is what
 -- is left of the places with two bytes after them.
-use Prim.Native.Nat.{◌-◌}
 use native.Mathlib.Omega.{arith}
 use Rattle.byterun_pieces.proofs.Scan.{plain_found, plain_next, plain_apart, plain_stop, plain_end, plain_end_one}
 use Rattle.byterun_pieces.proofs.plain_at.Goals as goal

@@ -5,10 +5,10 @@ use Rattle.std.proofs.Common.{sym, ap, ◌∙◌, length-append, length-drop, le
 use Rattle.std.proofs.lemmas.List.{length-replicate}
 use Rattle.iff_name.specs.Name.{pick}
 use Rattle.byterun_row.specs.ByteRun.{Row, filled, over, short, fitted, code_for, code_of, prepend, on_code, unpack_by, unpack_row, plain_row, row_of, answer_of, IsFull}
-use Rattle.byterun_row.specs.declared.RowAnswer.{RowAnswer}
-use Rattle.byterun_row.specs.declared.RowAnswer.TheVariants.{Full}
 use Rattle.byterun_row.specs.declared.Code.{Code}
 use Rattle.byterun_row.specs.declared.Code.TheVariants.{Missing, Skip, Copy, Repeat, Long, Cut}
+use Rattle.iff_refusal.specs.Numbers.{Answer}
+use Rattle.std.specs.Prelude.{Ok}
 
 -- past the BODY's end there is no code byte
 pub code_missing : (body : List ℕ) (i left : ℕ) → length body ≤ i → code_of body i left ≡ Missing
@@ -159,24 +159,24 @@ row_inside compression body at n h = go (eqb compression 0)
 
 -- the same for a caller that has the answer of a full row
 pub next_inside :
-    (compression : ℕ) (body : List ℕ) (at n : ℕ) (r : RowAnswer) (q : ℕ) → r ≡ answer_of (row_of compression body at n) → r ≡ Full q → at ≤ length body → (at ≤ q) × (q ≤ length body)
+    (compression : ℕ) (body : List ℕ) (at n : ℕ) (r : Answer ℕ) (q : ℕ) → r ≡ answer_of (row_of compression body at n) → r ≡ Ok q → at ≤ length body → (at ≤ q) × (q ≤ length body)
 next_inside compression body at n r q is e h = go (row_of compression body at n) (row_inside compression body at n h) (sym is ∙ e)
   where
-    go : (w : Row) → Inside body at n w → answer_of w ≡ Full q → (at ≤ q) × (q ≤ length body)
+    go : (w : Row) → Inside body at n w → answer_of w ≡ Ok q → (at ≤ q) × (q ≤ length body)
     go (filled bs p) i d = let z : p ≡ q = cc in (omega arith, omega arith)
     go (over p) i d = let z : ◌≡◌ {A = ℕ} 0 1 = cc in absurd (omega arith)
     go (short p) i d = let z : ◌≡◌ {A = ℕ} 0 1 = cc in absurd (omega arith)
 
 -- a row whose answer is full is full, with some bytes
-pub judged_full : (row : Row) (r : RowAnswer) → r ≡ answer_of row → (q : ℕ) → r ≡ Full q → IsFull row
+pub judged_full : (row : Row) (r : Answer ℕ) → r ≡ answer_of row → (q : ℕ) → r ≡ Ok q → IsFull row
 judged_full row r is q e = go row (sym is ∙ e)
   where
-    go : (w : Row) → answer_of w ≡ Full q → IsFull w
+    go : (w : Row) → answer_of w ≡ Ok q → IsFull w
     go (filled bs p) d = tt
     go (over p) d = let z : ◌≡◌ {A = ℕ} 0 1 = cc in absurd (omega arith)
     go (short p) d = let z : ◌≡◌ {A = ℕ} 0 1 = cc in absurd (omega arith)
 
-pub full_bytes : (row : Row) (q : ℕ) → answer_of row ≡ Full q → (bs : List ℕ) × (row ≡ filled bs q)
+pub full_bytes : (row : Row) (q : ℕ) → answer_of row ≡ Ok q → (bs : List ℕ) × (row ≡ filled bs q)
 full_bytes (filled bs p) q d = let z : p ≡ q = cc in (bs, ap (λ (k : ℕ). filled bs k) z)
 full_bytes (over p) q d = let z : ◌≡◌ {A = ℕ} 0 1 = cc in absurd (omega arith)
 full_bytes (short p) q d = let z : ◌≡◌ {A = ℕ} 0 1 = cc in absurd (omega arith)

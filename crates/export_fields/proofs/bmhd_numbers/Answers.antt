@@ -1,10 +1,7 @@
--- The size is tested before the fields are read.
-use borrow.Author.Rules.{rules}
-use Rattle.export_fields.proofs.Laws.{wrong_size, right_size}
+-- The header of no BMHD is the one with every field 0.
+use Rattle.ilbm_spec.specs.Pictures.{header_in}
 use Rattle.export_fields.proofs.bmhd_numbers.Goals as goal
 
-pub returns-then-data-ne20 : goal.returns-then-data-ne20
-returns-then-data-ne20 c = search (wrong_size, rules)
-
-pub returns : goal.returns
-returns c = search (right_size, rules)
+pub returns-in-Err : goal.returns-in-Err
+unfolding header_in
+returns-in-Err c = rw (c.in-Err.is, c.number.ensures, c.no_header.ensures)

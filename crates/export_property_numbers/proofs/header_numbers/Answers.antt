@@ -1,11 +1,7 @@
--- By the cases of the answer: the fields are copied, or 0 beside a refusal.
-use Rattle.export_property_numbers.specs.Properties.{header_numbers}
+-- The header of no BMHD is the one with every field 0.
+use Rattle.ilbm_spec.specs.Pictures.{header_in}
 use Rattle.export_property_numbers.proofs.header_numbers.Goals as goal
 
-pub returns-in-Shown : goal.returns-in-Shown
-unfolding header_numbers
-returns-in-Shown c = rw (c.in-Shown.is, c.origin_number.ensures, c.shared_place.ensures)
-
-pub returns-in-Refused : goal.returns-in-Refused
-unfolding header_numbers
-returns-in-Refused c = rw c.in-Refused.is
+pub returns-in-Err : goal.returns-in-Err
+unfolding header_in
+returns-in-Err c = rw c.in-Err.is (rw c.no_header.ensures at c.refused_with.ensures)

@@ -1,5 +1,4 @@
 -- Before each turn the buffer is clean up to p, and from there on the chunks still to come are as the file has them.
-use Prim.Native.Nat.{◌-◌}
 use native.Mathlib.Omega.{arith}
 use lib.ListN.{length}
 use borrow.Author.Rules.{rules}

@@ -13,18 +13,21 @@ use Rattle.iff_rules.specs.Rules.{inside, after, group_type, second_prop}
 use Rattle.iff_header.specs.Checks.{header_of}
 use Rattle.iff_tree.specs.Judge.{Found, found, run, chunk_at, members_of}
 use Rattle.iff_grammar.specs.Grammar.{chunk_name, seen_after, Members, height}
-use Rattle.iff_grammar.proofs.laws.Read.{leaf_name, leaf_size, leaf_data, leaf_pad, leaf_next, leaf_rest, length_leaf, length_group, group_name, group_size, group_type_lem, group_members, group_next, group_rest}
+use Rattle.iff_grammar.proofs.laws.Read.{leaf_name, leaf_size, leaf_data, leaf_pad, leaf_next, leaf_rest, length_leaf}
+use Rattle.iff_grammar.proofs.laws.Read.{length_group, group_name, group_size, group_type_lem, group_members, group_next}
+use Rattle.iff_grammar.proofs.laws.Read.{group_rest}
 use Rattle.iff_grammar.proofs.laws.Names.{members_regular, group_chunk_name, after_leaf, seen_leaf}
 use Rattle.iff_grammar.proofs.laws.Props.{Seen, seen_start, seen_step}
 use Rattle.iff_grammar.proofs.laws.Headers.{header_leaf, header_group, new_second}
+use Rattle.std.specs.Prelude.{Ok}
 
-by_leaf : (levels : ℕ) (s : List ℕ) (from : ℕ) (w : Position) (p e z : ℕ) → header_of levels s from w p e ≡ Leaf z
+by_leaf : (levels : ℕ) (s : List ℕ) (from : ℕ) (w : Position) (p e z : ℕ) → header_of levels s from w p e ≡ Ok (Leaf z)
     → chunk_at levels s from w p e ≡ found (a_leaf (word s p) (slice (p + 8) (p + 8 + z) s) (slice (p + 8 + z) (p + 8 + z + z % 2) s))
 unfolding chunk_at
 by_leaf zero s from w p e z h = rw h
 by_leaf (suc levels) s from w p e z h = rw h
 
-by_group : (levels : ℕ) (s : List ℕ) (from : ℕ) (w : Position) (p e : ℕ) (k : Kind) (z : ℕ) (G : Chunks) → header_of (suc levels) s from w p e ≡ Group k z
+by_group : (levels : ℕ) (s : List ℕ) (from : ℕ) (w : Position) (p e : ℕ) (k : Kind) (z : ℕ) (G : Chunks) → header_of (suc levels) s from w p e ≡ Ok (Group k z)
     → run (chunk_at levels s (p + 12)) s (p + 8 + z - (p + 12)) (inside k) (p + 12) (p + 8 + z) ≡ found G
     → chunk_at (suc levels) s from w p e ≡ found (a_group (word s p) (word s (p + 8)) G)
 unfolding chunk_at
@@ -33,13 +36,13 @@ by_group levels s from w p e k z G h r = rw (h, r)
 leaf_header :
     (levels : ℕ) (s : List ℕ) (from : ℕ) (w : Position) (p e : ℕ) (seen : List ℕ) (n : ℕ) (d pd : List ℕ) (F : Chunks) (R : List ℕ) →
     Members w seen (leaf n d pd F) → length s ≤ 16777216 → drop p s ≡ bytes (leaf n d pd F) ++ R → p + 8 + length d + length pd ≤ e →
-    header_of levels s from w p e ≡ Leaf (length d)
+    header_of levels s from w p e ≡ Ok (Leaf (length d))
 leaf_header levels s from w p e seen n d pd F R m short at fit =
     let r = members_regular w seen (leaf n d pd F) m in
     let name : word s p ≡ n = leaf_name s p n d pd F R r short at in
     let size : word s (p + 4) ≡ length d = leaf_size s p n d pd F R r short at in
     let next : next_at s p ≡ p + 8 + length d + length pd = leaf_next s p n d pd F R r short at in
-    header_leaf levels s from w p e (rw name m.0) (rw name m.2) (rw next fit) (rw name m.1) ∙ ap Leaf size
+    header_leaf levels s from w p e (rw name m.0) (rw name m.2) (rw next fit) (rw name m.1) ∙ ap (λ z. Ok (Leaf z)) size
 
 leaf_complete :
     (levels : ℕ) (s : List ℕ) (from : ℕ) (w : Position) (p e : ℕ) (seen : List ℕ) (n : ℕ) (d pd : List ℕ) (F : Chunks) (R : List ℕ) →
@@ -53,7 +56,7 @@ leaf_complete levels s from w p e seen n d pd F R m short at fit =
 group_header :
     (levels : ℕ) (s : List ℕ) (from : ℕ) (w : Position) (p e : ℕ) (seen : List ℕ) (n t : ℕ) (G F : Chunks) (R : List ℕ) →
     Members w seen (group n t G F) → length s ≤ 16777216 → drop p s ≡ bytes (group n t G F) ++ R → p + 12 + length (bytes G) ≤ e →
-    Seen s from p seen → header_of (suc levels) s from w p e ≡ Group (kind_of n) (4 + length (bytes G))
+    Seen s from p seen → header_of (suc levels) s from w p e ≡ Ok (Group (kind_of n) (4 + length (bytes G)))
 group_header levels s from w p e seen n t G F R m short at fit h =
     let r = members_regular w seen (group n t G F) m in
     let name : word s p ≡ n = group_name s p n t G F R r short at in
@@ -65,7 +68,7 @@ group_header levels s from w p e seen n t G F R m short at fit h =
     let first : second_prop (kind_of n) s from p t ≡ false = not-true _ (sym (new_second (kind_of n) s from p t seen h) ∙ m.3) in
     let named : chunk_name (word s p) ≡ true = rw name (group_chunk_name n m.0) in
     header_group levels s from w p e named (rw name m.1) (rw next fit) (rw name m.0) four known (rw (name, type) first)
-    ∙ ap₂ Group (ap kind_of name) size
+    ∙ ap₂ (λ k z. Ok (Group k z)) (ap kind_of name) size
 
 pub group_complete :
     (levels : ℕ) (s : List ℕ) (from : ℕ) (w : Position) (p e : ℕ) (seen : List ℕ) (n t : ℕ) (G F : Chunks) (R : List ℕ) →

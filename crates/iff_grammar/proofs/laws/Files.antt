@@ -4,7 +4,6 @@ use Rattle.std.proofs.Common.{sym, ap, ap₂, ◌∙◌, subst, append-nil, arit
 use Rattle.std.proofs.Math.Seq.{slice}
 use Rattle.iff_name.specs.Name.{pick, version_name, kind_of}
 use Rattle.iff_rules.specs.declared.Position.TheVariants.{Outermost}
-use Rattle.iff_tree.specs.declared.Verdict.TheVariants.{Accepted}
 use Rattle.iff_chunk.specs.Chunks.{Chunks, none, leaf, group, Chunk, a_leaf, a_group, before, bytes, count, word, next_at}
 use Rattle.iff_rules.specs.Rules.{is_section, inside}
 use Rattle.iff_tree.specs.Judge.{Found, found, refused, chunk_at, members_of, read_file, verdict_of, check_of}
@@ -16,6 +15,10 @@ use Rattle.iff_grammar.proofs.laws.Names.{members_regular, name_parts, group_chu
 use Rattle.iff_grammar.proofs.laws.Props.{seen_start}
 use Rattle.iff_grammar.proofs.laws.Complete.{group_complete, run_complete}
 use Rattle.iff_grammar.proofs.laws.Sound.{GoodChunk, chunk_sound}
+use Rattle.iff_tree.specs.Judge.{accepting}
+use Rattle.iff_tree.specs.declared.Accepted.{Accepted}
+use Rattle.iff_refusal.specs.Numbers.{Answer}
+use Rattle.std.specs.Prelude.{Ok}
 
 -- the limits, as reading has them
 file_short : (s : List ℕ) (c : Chunk) (R : List ℕ) → ChunkFile s c R → length s ≤ 16777216
@@ -113,26 +116,27 @@ file_length s c R f =
     omega (arith, file_next s c R f)
 
 pub file_verdict : (s : List ℕ) (c : Chunk) (R : List ℕ) → ChunkFile s c R
-    → check_of s ≡ Accepted (count (before c none)) (length (bytes (before c none))) (length R)
+    → check_of s ≡ accepting (count (before c none)) (length (bytes (before c none))) (length R)
 file_verdict s c R f =
-    ap (verdict_of s) (file_complete s c R f) ∙ ap₂ (λ (e t : ℕ). Accepted (count (before c none)) e t) (file_next s c R f) (file_length s c R f)
+    ap (verdict_of s) (file_complete s c R f) ∙ ap₂ (λ (e t : ℕ). accepting (count (before c none)) e t) (file_next s c R f) (file_length s c R f)
 
 -- the file has a tree of n chunks and e bytes, and t bytes behind it
 abbrev pub HasTree : List ℕ → ℕ → ℕ → ℕ → Type 0
 HasTree s n e t =
     (c : Chunk) × (R : List ℕ) × ChunkFile s c R × (n ≡ count (before c none)) × (e ≡ length (bytes (before c none))) × (t ≡ length R)
 
-pub verdict_file : (s : List ℕ) → Bytes s → (n e t : ℕ) → check_of s ≡ Accepted n e t → HasTree s n e t
+pub same_accepted : (a b : Accepted) → ◌≡◌ {A = Answer Accepted} (Ok a) (Ok b) → a ≡ b
+same_accepted a b e = cc
+
+pub verdict_file : (s : List ℕ) → Bytes s → (n e t : ℕ) → check_of s ≡ accepting n e t → HasTree s n e t
 verdict_file s b n e t v = go (read_file s) (file_sound s b) v
   where
-    go : (r : Found Chunk) → GoodFile s r → verdict_of s r ≡ Accepted n e t → HasTree s n e t
+    go : (r : Found Chunk) → GoodFile s r → verdict_of s r ≡ accepting n e t → HasTree s n e t
     go (found c) g x =
         let R : List ℕ = drop (next_at s 0) s in
-        let one : n ≡ count (before c none) = cc in
-        let two : e ≡ next_at s 0 = cc in
-        let three : t ≡ length s - next_at s 0 = cc in
-        (c, R, g, one, two ∙ file_next s c R g, three ∙ file_length s c R g)
-    go (refused k p) g x = let z : ◌≡◌ {A = ℕ} 0 1 = cc in absurd (omega arith)
+        let same = sym (same_accepted _ _ x) in
+        (c, R, g, ap (λ a. a.chunks) same, ap (λ a. a.end) same ∙ file_next s c R g, ap (λ a. a.trailing) same ∙ file_length s c R g)
+    go (refused k p) g x = absurd cc
 
-pub file_answered : (s : List ℕ) (n e t : ℕ) → HasTree s n e t → check_of s ≡ Accepted n e t
+pub file_answered : (s : List ℕ) (n e t : ℕ) → HasTree s n e t → check_of s ≡ accepting n e t
 file_answered s n e t h = file_verdict s h.0 h.1 h.2 ∙ rw (h.3, h.4, h.5)

@@ -7,7 +7,7 @@ use Rattle.iff_name.specs.Name.{pick, kind_of}
 use Rattle.iff_name.specs.declared.Kind.{Kind}
 use Rattle.iff_rules.specs.declared.Position.{Position}
 use Rattle.iff_header.specs.declared.Header.{Header}
-use Rattle.iff_header.specs.declared.Header.TheVariants.{Refused as Header-refused, Leaf, Group}
+use Rattle.iff_header.specs.declared.Header.TheVariants.{Leaf, Group}
 use Rattle.iff_chunk.specs.Chunks.{Chunks, none, Chunk, a_leaf, a_group, before, put_word, bytes, word, next_at}
 use Rattle.iff_rules.specs.Rules.{inside, after}
 use Rattle.iff_header.specs.Checks.{header_of}
@@ -19,6 +19,9 @@ use Rattle.iff_grammar.proofs.laws.Read.{even_bytes}
 use Rattle.iff_grammar.proofs.laws.Names.{members_regular, after_leaf, seen_leaf}
 use Rattle.iff_grammar.proofs.laws.Props.{Seen, seen_start, seen_step}
 use Rattle.iff_grammar.proofs.laws.Headers.{Passed, header_sound, new_second}
+use Rattle.iff_refusal.specs.declared.Reason.TheVariants.{TooDeep}
+use Rattle.iff_refusal.specs.declared.Reason.{Reason}
+use Rattle.std.specs.Prelude.{Ok, Err, Result}
 
 -- the chunk found at p fits there, whatever may stand after it
 abbrev pub GoodChunk : ℕ → Position → List ℕ → List ℕ → ℕ → ℕ → Found Chunk → Type 0
@@ -91,7 +94,7 @@ group_bytes s p q I b h k i =
     head_bytes s p q b (omega arith) k ∙ ap (λ (l : List ℕ). put_word (word s p) (put_word (word s (p + 4)) l)) body
 
 leaf_sound :
-    (levels : ℕ) (w : Position) (seen s : List ℕ) (from p e z : ℕ) → Bytes s → e ≤ length s → Passed levels s from w p e (Leaf z) →
+    (levels : ℕ) (w : Position) (seen s : List ℕ) (from p e z : ℕ) → Bytes s → e ≤ length s → Passed levels s from w p e (Ok (Leaf z)) →
     GoodChunk levels w seen s p e (found (a_leaf (word s p) (slice (p + 8) (p + 8 + z) s) (slice (p + 8 + z) (p + 8 + z + z % 2) s)))
 unfolding bytes
 leaf_sound levels w seen s from p e z b le f =
@@ -115,7 +118,7 @@ leaf_sound levels w seen s from p e z b le f =
 
 group_sound :
     (levels : ℕ) (w : Position) (seen s : List ℕ) (from p e : ℕ) (k : Kind) (z : ℕ) → Bytes s → e ≤ length s → Seen s from p seen →
-    Passed (suc levels) s from w p e (Group k z) → (r : Found Chunks) → GoodRun levels (inside k) [] s (p + 12) (p + 8 + z) r →
+    Passed (suc levels) s from w p e (Ok (Group k z)) → (r : Found Chunks) → GoodRun levels (inside k) [] s (p + 12) (p + 8 + z) r →
     GoodChunk (suc levels) w seen s p e (and_then r (λ G. found (a_group (word s p) (word s (p + 8)) G)))
 unfolding bytes
 group_sound levels w seen s from p e k z b le h f (refused j q) g = tt
@@ -143,20 +146,20 @@ pub chunk_sound :
 unfolding chunk_at
 chunk_sound zero s b from w seen p e le h = go (header_of 0 s from w p e) (header_sound 0 s from w p e)
   where
-    go : (x : Header) → Passed 0 s from w p e x → GoodChunk 0 w seen s p e (by_header x s p (λ k z. refused 9 p))
-    go (Header-refused k) f = tt
-    go (Leaf z) f = leaf_sound 0 w seen s from p e z b le f
-    go (Group k z) f = tt
+    go : (x : Result Header Reason) → Passed 0 s from w p e x → GoodChunk 0 w seen s p e (by_header x s p (λ k z. refused TooDeep p))
+    go (Err k) f = tt
+    go (Ok (Leaf z)) f = leaf_sound 0 w seen s from p e z b le f
+    go (Ok (Group k z)) f = tt
 chunk_sound (suc levels) s b from w seen p e le h =
     go (λ v l q r i g. chunk_sound levels s b (p + 12) v l q r i g) (header_of (suc levels) s from w p e) (header_sound (suc levels) s from w p e)
   where
     go :
         ((v : Position) (l : List ℕ) (q r : ℕ) → r ≤ length s → Seen s (p + 12) q l → GoodChunk levels v l s q r (chunk_at levels s (p + 12) v q r)) →
-        (x : Header) → Passed (suc levels) s from w p e x →
+        (x : Result Header Reason) → Passed (suc levels) s from w p e x →
         GoodChunk (suc levels) w seen s p e (by_header x s p (λ k z. members_of levels s (p + 12) (inside k) (p + 12) (p + 8 + z)))
-    go good (Header-refused k) f = tt
-    go good (Leaf z) f = leaf_sound (suc levels) w seen s from p e z b le f
-    go good (Group k z) f =
+    go good (Err k) f = tt
+    go good (Ok (Leaf z)) f = leaf_sound (suc levels) w seen s from p e z b le f
+    go good (Ok (Group k z)) f =
         let size : z ≡ word s (p + 4) = f.0 in
         let within : next_at s p ≤ e = f.1 in
         let four : 4 ≤ word s (p + 4) = f.7 in

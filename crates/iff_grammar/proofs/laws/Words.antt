@@ -1,6 +1,7 @@
 -- Four bytes and the number that they are, and what is left of a file behind them.
 use Rattle.std.specs.Prelude.{ℕ, zero, suc, ◌+◌, ◌*◌, ◌-◌, ◌/◌, ◌%◌, ◌≤◌, ◌<◌, ◌≡◌, refl, List, [], ◌∷◌, ◌++◌, length, get_or, take, drop}
-use Rattle.std.proofs.Common.{sym, ap, ap₂, ◌∙◌, add-zero, zero-add, suc-add, arith, length-append, length-drop, take-append-drop, get_or-drop, drop-drop, drop_at, take_at, take-add}
+use Rattle.std.proofs.Common.{sym, ap, ap₂, ◌∙◌, add-zero, zero-add, suc-add, arith, length-append, length-drop, take-append-drop}
+use Rattle.std.proofs.Common.{get_or-drop, drop-drop, drop_at, take_at, take-add}
 use Rattle.std.proofs.Math.Seq.{slice, slice-cons, take-nil}
 use Rattle.iff_chunk.specs.Chunks.{put_word, word}
 use Rattle.iff_grammar.specs.Words.{Bytes}

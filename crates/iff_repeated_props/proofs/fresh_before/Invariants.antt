@@ -6,6 +6,3 @@ use Rattle.iff_repeated_props.proofs.fresh_before.Given as goal
 
 abbrev pub invariant-loop-class : goal.invariant-loop-class
 invariant-loop-class l = (l.r ≤ length l.s - 11) × Covered l.class l.s l.from l.r
-
-abbrev pub decreases-loop-class : goal.decreases-loop-class
-decreases-loop-class l = 75 - l.class

@@ -4,18 +4,21 @@ use Rattle.std.proofs.Common.{sym, ap, ◌∙◌, subst, append_assoc, arith, le
 use Rattle.iff_name.specs.Name.{pick, kind_of}
 use Rattle.iff_name.specs.declared.Kind.{Kind}
 use Rattle.iff_rules.specs.declared.Position.TheVariants.{Outermost}
-use Rattle.iff_tree.specs.declared.Verdict.TheVariants.{Accepted}
 use Rattle.iff_chunk.specs.Chunks.{Chunks, none, leaf, group, Chunk, before, bytes, count, word, next_at}
 use Rattle.iff_rules.specs.Rules.{is_group}
 use Rattle.iff_tree.specs.Judge.{check_of}
 use Rattle.iff_grammar.specs.Grammar.{ChunkFile}
 use Rattle.iff_grammar.specs.Words.{Bytes}
-use Rattle.iff_grammar.proofs.laws.Read.{leaf_name, leaf_size, leaf_data, leaf_next, leaf_rest, group_name, group_size, group_type_lem, group_members, group_next, group_rest, length_leaf, length_group}
+use Rattle.iff_grammar.proofs.laws.Read.{leaf_name, leaf_size, leaf_data, leaf_next, leaf_rest, group_name, group_size}
+use Rattle.iff_grammar.proofs.laws.Read.{group_type_lem, group_members, group_next, group_rest, length_leaf, length_group}
 use Rattle.iff_grammar.proofs.laws.Names.{members_regular}
-use Rattle.iff_grammar.proofs.laws.Files.{file_next, file_rest, file_complete, verdict_file}
+use Rattle.iff_grammar.proofs.laws.Files.{file_next, file_rest, file_complete, same_accepted, verdict_file}
 use Rattle.iff_walk.specs.Order.{join, later, following}
 use Rattle.iff_walk.specs.laws.Order.{join_bytes, join_length, join_regular, count_bytes}
 use Rattle.iff_walk.specs.Coming.{Coming, AtLeaf, AtGroup, Sound}
+use Rattle.iff_tree.specs.Judge.{accepting}
+use Rattle.iff_tree.specs.declared.Accepted.{Accepted}
+use Rattle.std.specs.Prelude.{Ok}
 
 -- the end of the loop
 pub coming_none : (s : List ℕ) (p e : ℕ) (P : Chunks) → Coming s p e P → e ≤ p → P ≡ none
@@ -169,14 +172,14 @@ coming_file s c R f =
     }
 
 -- the chunks still to come are as many as the check counts
-pub accepted_count : (s : List ℕ) (n e t : ℕ) → check_of s ≡ Accepted n e t → (f : Sound s e) → n ≡ count (before f.chunk none)
-accepted_count s n e t v f =
-    let told : check_of s ≡ Accepted (count (before f.chunk none)) (next_at s 0) (length s - next_at s 0) = rw f.read in
-    cc
+pub accepted_count : (s : List ℕ) (a : Accepted) → check_of s ≡ Ok a → (f : Sound s a.end) → a.chunks ≡ count (before f.chunk none)
+accepted_count s a v f =
+    let told : check_of s ≡ accepting (count (before f.chunk none)) (next_at s 0) (length s - next_at s 0) = rw f.read in
+    ap (λ x. x.chunks) (same_accepted _ _ (sym v ∙ told))
 
-pub accepted_sound : (s : List ℕ) → Bytes s → (n e t : ℕ) → check_of s ≡ Accepted n e t → Sound s e
-accepted_sound s b n e t v =
-    let h = verdict_file s b n e t v in
+pub accepted_sound : (s : List ℕ) → Bytes s → (a : Accepted) → check_of s ≡ Ok a → Sound s a.end
+accepted_sound s b a v =
+    let h = verdict_file s b a.chunks a.end a.trailing v in
     let f = h.2 in
     record {
       chunk = h.0;

@@ -1,5 +1,4 @@
--- The loop's invariant: the first i entries hold what their numbers hold. The measure is what is left of the count.
-use Prim.Native.Nat.{◌-◌}
+-- The loop's invariant: the first i entries hold what their numbers hold.
 use borrow.Author.Rules.{rules}
 use Rattle.ilbm_colour_words.proofs.Filled.{filled_none, keep_filled}
 use Rattle.ilbm_colour_words.proofs.keep_words.Goals as goal
@@ -8,5 +7,4 @@ pub loop-i-init : goal.loop-i-init
 loop-i-init c = search (filled_none, rules)
 
 pub returns : goal.returns
-returns c =
-    keep_filled c.args.planes _ _ _ c.code_count-count.ensures.0 c.loop-i-test.false c.loop-i.invariant.2
+returns c = keep_filled c.args.planes _ _ _ c.code_count-count.ensures.0 c.loop-i-test.false c.loop-i.invariant.filled

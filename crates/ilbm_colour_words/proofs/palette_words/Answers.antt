@@ -1,5 +1,4 @@
--- The loop's invariant: the first i entries are the colours of their numbers, the others 0. The measure is what is left of the count.
-use Prim.Native.Nat.{◌-◌}
+-- The loop's invariant: the first i entries are the colours of their numbers, the others 0.
 use borrow.Author.Rules.{rules}
 use Rattle.ilbm_colour_words.proofs.Filled.{filled_none, palette_filled}
 use Rattle.ilbm_colour_words.proofs.palette_words.Goals as goal
@@ -10,5 +9,5 @@ loop-i-init c = search (filled_none, rules)
 pub returns : goal.returns
 returns c =
     let s = c.args in
-    let filled = c.loop-i.invariant in
-    palette_filled s.half s.palette.now _ _ _ filled.2 c.number_count-count.ensures filled.0 c.loop-i-test.false
+    let l = c.loop-i in
+    palette_filled s.half s.palette.now _ _ _ l.invariant.filled c.number_count-count.ensures l.auto.i-end c.loop-i-test.false

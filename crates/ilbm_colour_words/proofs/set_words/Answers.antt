@@ -1,5 +1,4 @@
--- The loop's invariant: the first i entries set what their numbers set. The measure is what is left of the count.
-use Prim.Native.Nat.{◌-◌}
+-- The loop's invariant: the first i entries set what their numbers set.
 use borrow.Author.Rules.{rules}
 use Rattle.ilbm_colour_words.proofs.Filled.{filled_none, set_filled}
 use Rattle.ilbm_colour_words.proofs.set_words.Goals as goal
@@ -10,4 +9,4 @@ loop-i-init c = search (filled_none, rules)
 pub returns : goal.returns
 returns c =
     let s = c.args in
-    set_filled s.planes _ _ _ c.code_count-count.ensures.0 c.loop-i-test.false s.palette.now c.loop-i.invariant.2
+    set_filled s.planes _ _ _ c.code_count-count.ensures.0 c.loop-i-test.false s.palette.now c.loop-i.invariant.filled

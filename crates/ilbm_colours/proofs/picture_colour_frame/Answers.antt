@@ -7,7 +7,7 @@ use Rattle.ilbm_colours.proofs.picture_colour_frame.Goals as goal
 pub view_mode-mode-requires : goal.view_mode-mode-requires
 view_mode-mode-requires c = search (camg_right, rules)
 
-pub returns-in-Between : goal.returns-in-Between
-returns-in-Between c =
-    frame_done _ _ _ _ _ c.view_mode-mode.ensures _ c.part_or_default-palette.ensures.0 _ _ c.in-Between.is _ _ _
+pub returns-in-Some : goal.returns-in-Some
+returns-in-Some c =
+    frame_done _ _ _ _ _ c.view_mode-mode.ensures _ c.part_or_default-palette.ensures.0 _ _ c.in-Some.is _ _ _
     c.colour_frame_in_body.ensures.answer c.colour_frame_in_body.ensures.bytes

@@ -3,5 +3,5 @@ use Rattle.ilbm_content.proofs.Laws.{shared_marked}
 use borrow.Author.Rules.{rules}
 use Rattle.ilbm_content.proofs.property.Goals as goal
 
-pub part_at-requires-then-other-ne0 : goal.part_at-requires-then-other-ne0
-part_at-requires-then-other-ne0 c = search (shared_marked, rules)
+pub part_at-requires-in-Some : goal.part_at-requires-in-Some
+part_at-requires-in-Some c = search (shared_marked, rules)

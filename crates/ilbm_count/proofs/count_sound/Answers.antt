@@ -1,5 +1,4 @@
 -- Before each turn the pictures counted and those among the chunks still to come are all of them. The measure is the bytes left.
-use Prim.Native.Nat.{◌-◌}
 use borrow.Author.Rules.{rules}
 use Rattle.ilbm_count.proofs.Laws.{tally_laws}
 use Rattle.ilbm_count.proofs.count_sound.Goals as goal

@@ -3,14 +3,14 @@ use Rattle.ilbm_find.proofs.ViewLaws.{sound_row, none_around, spot_form, view_he
 use borrow.Author.Rules.{rules}
 use Rattle.ilbm_find.proofs.view_sound.Goals as goal
 
-pub seek-spot-requires : goal.seek-spot-requires
-seek-spot-requires c = search (sound_row, none_around, rules)
+pub seek-requires : goal.seek-requires
+seek-requires c = search (sound_row, none_around, rules)
 
 pub view_form-requires : goal.view_form-requires
 view_form-requires c = search (spot_form, rules)
 
-pub returns-in-Here : goal.returns-in-Here
-returns-in-Here c = search (view_here, rules)
+pub returns-in-Break : goal.returns-in-Break
+returns-in-Break c = search (view_here, rules)
 
-pub returns-in-Left : goal.returns-in-Left
-returns-in-Left c = search (view_left, rules)
+pub returns-in-Continue : goal.returns-in-Continue
+returns-in-Continue c = search (view_left, rules)

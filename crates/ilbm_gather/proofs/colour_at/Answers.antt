@@ -1,5 +1,4 @@
--- `colour_at` meets its contract. The loop's invariant: colour is the colour number of the planes from k on; the measure is k.
-use native.Mathlib.Omega.{arith}
+-- `colour_at` meets its contract. The loop's invariant: colour is the colour number of the planes from k on.
 use borrow.Author.Rules.{rules}
 use Rattle.ilbm_gather.proofs.Colours.{colouring, coloured_more}
 use Rattle.ilbm_gather.proofs.colour_at.Goals as goal
@@ -10,4 +9,4 @@ loop-k-init c = search (colouring, rules)
 pub loop-k-preserved : goal.loop-k-preserved
 loop-k-preserved c =
     let l = c.loop-k in
-    (omega arith, coloured_more _ _ _ _ c.requires.0 _ _ l.invariant.1 _ c.loop-k-test.true l.invariant.0 c.requires.2 c.wide.ensures.0)
+    coloured_more _ _ _ _ c.requires.0 _ _ l.invariant _ c.loop-k-test.true l.auto.k c.requires.2 c.wide.ensures.0

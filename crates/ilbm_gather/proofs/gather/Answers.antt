@@ -1,5 +1,4 @@
--- `gather` meets its contract. The loop's invariant: the first x pixels have their colours; the measure is what is left of the row.
-use Prim.Native.Nat.{◌-◌}
+-- `gather` meets its contract. The loop's invariant: the first x pixels have their colours.
 use borrow.Author.Rules.{rules}
 use Rattle.ilbm_gather.proofs.Colours.{gathering}
 use Rattle.ilbm_gather.proofs.gather.Goals as goal

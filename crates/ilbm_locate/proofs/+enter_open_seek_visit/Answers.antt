@@ -1,7 +1,7 @@
 -- The picture of a given number, found by going through the members of each group and into each group, by the laws of SeekLaws.antt.
 use Rattle.std.proofs.Common.{rules, arith}
 use Rattle.ilbm_locate.proofs.Laws.{group_laws}
-use Rattle.ilbm_locate.proofs.SeekLaws.{passing_end, passing_more, seek_laws, visit_laws}
+use Rattle.ilbm_locate.proofs.SeekLaws.{passing_end, passing_here, passing_more, seek_laws, visit_laws}
 use Rattle.ilbm_locate.proofs.+enter_open_seek_visit.Goals as goal
 
 pub enter-size_at-requires : goal.enter-size_at-requires
@@ -28,8 +28,9 @@ open-returns-then-is_picture t c = search (group_laws, visit_laws, rules)
 pub open-returns : goal.open-returns
 open-returns t c = search (group_laws, visit_laws, rules)
 
-pub seek-returns-in-Here : goal.seek-returns-in-Here
-seek-returns-in-Here t c = search (seek_laws, rules)
+pub seek-returns-in_err-left : goal.seek-returns-in_err-left
+seek-returns-in_err-left t c =
+    passing_here _ _ _ _ _ _ _ _ c.loop-q.invariant.3 c.visit.ensures _ _ c.from_residual.ensures cc
 
 pub visit-name_at-n-requires : goal.visit-name_at-n-requires
 visit-name_at-n-requires t c = search (group_laws, visit_laws, rules)
@@ -39,7 +40,7 @@ visit-returns t c = search (group_laws, visit_laws, rules)
 
 pub seek-loop-q-preserved : goal.seek-loop-q-preserved
 seek-loop-q-preserved t c =
-    let going = passing_more _ _ _ _ c.sibling_at-q.ensures _ _ _ _ _ c.loop-q.invariant.3 c.visit-v.ensures _ c.in-Left.is in
+    let going = passing_more _ _ _ _ c.sibling_at-q.ensures _ _ _ _ _ c.loop-q.invariant.3 c.visit.ensures c.in_ok-left.left cc in
     (search (seek_laws, rules), search (seek_laws, rules), search (seek_laws, rules), going)
 
 pub seek-returns : goal.seek-returns

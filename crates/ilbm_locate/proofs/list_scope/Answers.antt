@@ -1,5 +1,4 @@
 -- Before each turn the members still to come give the scope that all give: a PROP ILBM decides, and at the end the scope around is left.
-use Prim.Native.Nat.{◌-◌}
 use native.Mathlib.Omega.{arith}
 use Rattle.ilbm_locate.proofs.ScopeLaws.{sharing_laws, sharing_end}
 use borrow.Author.Rules.{rules}

@@ -3,8 +3,8 @@ use Rattle.std.proofs.Common.{rules}
 use Rattle.ilbm_properties.proofs.Laws.{destination_none, destination_some}
 use Rattle.ilbm_properties.proofs.destination_of.Goals as goal
 
-pub returns-in-Nothing : goal.returns-in-Nothing
-returns-in-Nothing c = search (destination_none, rules)
+pub returns-in-None : goal.returns-in-None
+returns-in-None c = search (destination_none, rules)
 
-pub returns-in-Between : goal.returns-in-Between
-returns-in-Between c = search (destination_some, rules)
+pub returns-in-Some : goal.returns-in-Some
+returns-in-Some c = search (destination_some, rules)

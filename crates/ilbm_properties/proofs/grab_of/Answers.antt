@@ -3,8 +3,8 @@ use Rattle.std.proofs.Common.{rules}
 use Rattle.ilbm_properties.proofs.Laws.{grab_none, grab_some}
 use Rattle.ilbm_properties.proofs.grab_of.Goals as goal
 
-pub returns-in-Nothing : goal.returns-in-Nothing
-returns-in-Nothing c = search (grab_none, rules)
+pub returns-in-None : goal.returns-in-None
+returns-in-None c = search (grab_none, rules)
 
-pub returns-in-Between : goal.returns-in-Between
-returns-in-Between c = search (grab_some, rules)
+pub returns-in-Some : goal.returns-in-Some
+returns-in-Some c = search (grab_some, rules)

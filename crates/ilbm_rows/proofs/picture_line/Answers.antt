@@ -3,5 +3,5 @@ use borrow.Author.Rules.{rules}
 use Rattle.ilbm_rows.proofs.Body.{line_done}
 use Rattle.ilbm_rows.proofs.picture_line.Goals as goal
 
-pub returns-in-Between : goal.returns-in-Between
-returns-in-Between c = search (line_done, rules)
+pub returns-in-Some : goal.returns-in-Some
+returns-in-Some c = search (line_done, rules)

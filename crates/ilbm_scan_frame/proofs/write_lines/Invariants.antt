@@ -1,16 +1,7 @@
--- `write_lines` meets its contract. The loop's invariant: the first y lines stand in the frame, and those from q on are the others; the
--- measure is their number.
-use Prim.Native.Nat.{◌-◌, ◌≤◌}
-use mathlib.Core.Path.{◌≡◌}
-use lib.ListN.{length}
+-- `write_lines` meets its contract. The loop's invariant: the first y lines stand in the frame, and those from q on are the others.
 use Rattle.ilbm_spec.specs.Rows.{row_length, colour_numbers}
 use Rattle.ilbm_scan_frame.proofs.Frame.{Drawn}
 use Rattle.ilbm_scan_frame.proofs.write_lines.Given as goal
 
 abbrev pub invariant-loop-y : goal.invariant-loop-y
-invariant-loop-y l =
-    (l.y ≤ l.h) × (length l.buffer ≡ length l.initial.buffer) × (length l.frame ≡ length l.initial.frame) ×
-    Drawn (colour_numbers l.w l.planes) l.compression (row_length l.w) l.w l.rows l.body l.h l.y l.q l.frame
-
-abbrev pub decreases-loop-y : goal.decreases-loop-y
-decreases-loop-y l = l.h - l.y
+invariant-loop-y l = Drawn (colour_numbers l.w l.planes) l.compression (row_length l.w) l.w l.rows l.body l.h l.y l.q l.frame

@@ -1,5 +1,4 @@
--- `put_opaque` meets its contract. The loop's invariant: the first x pixels have their shape; the measure is what is left of them.
-use Prim.Native.Nat.{◌-◌}
+-- `put_opaque` meets its contract. The loop's invariant: the first x pixels have their shape.
 use borrow.Author.Rules.{rules}
 use Rattle.ilbm_shape.proofs.Shapes.{shapes}
 use Rattle.ilbm_shape.proofs.put_opaque.Goals as goal

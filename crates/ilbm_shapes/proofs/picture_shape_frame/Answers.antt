@@ -3,5 +3,5 @@ use borrow.Author.Rules.{rules}
 use Rattle.ilbm_shapes.proofs.Body.{frame_done}
 use Rattle.ilbm_shapes.proofs.picture_shape_frame.Goals as goal
 
-pub returns-in-Between : goal.returns-in-Between
-returns-in-Between c = search (frame_done, rules)
+pub returns-in-Some : goal.returns-in-Some
+returns-in-Some c = search (frame_done, rules)

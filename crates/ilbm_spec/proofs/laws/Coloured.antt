@@ -14,6 +14,7 @@ use Rattle.ilbm_spec.specs.Colours.{black, holds, is_half_bright, number_colour,
 use Rattle.ilbm_spec.specs.Colours.{coloured, body_colour_line, body_colour_frame}
 use Rattle.ilbm_spec.proofs.laws.Rows.{colours_count}
 use Rattle.ilbm_spec.specs.ColoursOfNumbers.{read_as, carried_lines}
+use Rattle.iff_refusal.specs.declared.Reason.TheVariants.{WrongLength, BeyondBody}
 
 -- ---- where nothing is held
 
@@ -112,8 +113,8 @@ module _ (body : List ℕ) (w planes masking compression mode : ℕ) (palette : 
     where
       go :
           (a b : Bool) (x : Read (List ℕ)) →
-          pick a (refused 29 0) (pick (not b) (refused 28 0) (read_as (carried step black) x))
-          ≡ read_as (carried step black) (pick a (refused 29 0) (pick (not b) (refused 28 0) x))
+          pick a (refused BeyondBody 0) (pick (not b) (refused WrongLength 0) (read_as (carried step black) x))
+          ≡ read_as (carried step black) (pick a (refused BeyondBody 0) (pick (not b) (refused WrongLength 0) x))
       go true b x = refl
       go false true x = refl
       go false false x = refl
@@ -129,8 +130,8 @@ module _ (body : List ℕ) (w planes masking compression mode : ℕ) (palette : 
     where
       go :
           (b : Bool) (x : Read (List ℕ)) →
-          pick (not b) (refused 28 0) (leftover (length body) (read_as (made h) x))
-          ≡ read_as (made h) (pick (not b) (refused 28 0) (leftover (length body) x))
+          pick (not b) (refused WrongLength 0) (leftover (length body) (read_as (made h) x))
+          ≡ read_as (made h) (pick (not b) (refused WrongLength 0) (leftover (length body) x))
       go true (found (cs, q)) = refl
       go true (refused k p) = refl
       go false x = refl

@@ -1,19 +1,19 @@
 -- The colours of a picture are those of its colour numbers, by what holds of the rows of its BODY: they are asked after the same refusals,
 -- 46 put between, so the one is read where the other is.
-use Rattle.std.specs.Prelude.{ℕ, ◌*◌, ◌≡◌, refl, Bool, true, false, List, [], ◌∷◌, eqb}
+use Rattle.std.specs.Prelude.{ℕ, ◌*◌, ◌≡◌, refl, false, List, [], ◌∷◌, Result, Ok, Err}
 use Rattle.std.proofs.Common.{ap, ◌∙◌}
-use Rattle.iff_name.specs.Name.{pick}
 use Rattle.iff_tree.specs.Judge.{found, refused}
 use Rattle.ilbm_spec.specs.declared.BitmapHeader.{BitmapHeader}
 use Rattle.ilbm_spec.specs.Contents.{Located, Content}
-use Rattle.ilbm_spec.specs.Pictures.{Viewed, view_of, palette_of_property, empty_fields, fields_refusal}
-use Rattle.ilbm_spec.specs.Rows.{Read, body_line, body_frame, on_fields, on_body, ask_body, line_read, frame_read}
+use Rattle.ilbm_spec.specs.Pictures.{Viewed, view_of, palette_of_property, empty_fields, fields_refusal, passing}
+use Rattle.ilbm_spec.specs.Rows.{Read, body_line, body_frame, on_body, ask_body, line_read, frame_read}
 use Rattle.ilbm_spec.specs.Colours.{black, holds, Step, pixel_colour, carried, each_colour, mode_shown}
 use Rattle.ilbm_spec.specs.Colours.{body_colour_line, body_colour_frame, mode_of_view, colour_line_read}
 use Rattle.ilbm_spec.specs.Colours.{colour_frame_read}
 use Rattle.ilbm_spec.specs.ColoursOfNumbers.{read_as, carried_lines, header_of, step_of, plain_colour, ColoursOfNumbers}
 use Rattle.ilbm_spec.proofs.laws.Coloured.{plain_step, ByLines, lines_apart, lines_joined, line_coloured}
 use Rattle.ilbm_spec.proofs.laws.Coloured.{frame_coloured}
+use Rattle.iff_refusal.specs.declared.Reason.{Reason}
 
 on_body_lem :
     {A : Type 0} (bs : List Located) (f x : List ℕ → Read A) (g : Read A → Read A) → ((body : List ℕ) → f body ≡ g (x body)) →
@@ -21,12 +21,10 @@ on_body_lem :
 on_body_lem [] f x g e = refl
 on_body_lem (b ∷ bs) f x g e = e b.content
 
-on_fields_lem : {A : Type 0} (k : ℕ) (f x : Read A) (g : Read A → Read A) → f ≡ g x → on_fields k f ≡ on_fields k (g (on_fields k x))
-on_fields_lem {A} k f x g e = go (eqb k 0)
-  where
-    go : (b : Bool) → pick b f (refused k 0) ≡ pick b (g (pick b x (refused k 0))) (refused k 0)
-    go true = e
-    go false = refl
+passing_lem :
+    {A : Type 0} (k : Result (Unit {0}) Reason) (f x : Read A) (g : Read A → Read A) → f ≡ g x → passing k f ≡ passing k (g (passing k x))
+passing_lem (Ok u) f x g e = e
+passing_lem (Err k) f x g e = refl
 
 on_plain :
     (bs : List Located) (f x : List ℕ → Read (List ℕ)) (made : List ℕ → List ℕ) → ((body : List ℕ) → f body ≡ read_as made (x body)) →
@@ -102,12 +100,12 @@ colours_of_numbers =
       frame = λ s i default room. frame_seen (view_of s i) default room;
       body_line_lem = λ body w planes masking compression mode palette start room.
           let step : Step = pixel_colour mode planes palette in
-          on_fields_lem (fields_refusal planes masking compression (empty_fields w 1 planes)) _
+          passing_lem (fields_refusal planes masking compression (empty_fields w 1 planes)) _
           (body_line body w planes masking compression start room) (λ x. mode_shown mode planes (read_as (carried step black) x))
           (ap (mode_shown mode planes) (line_coloured body w planes masking compression mode palette start room));
       body_frame_lem = λ body w h planes masking compression mode palette room.
           let step : Step = pixel_colour mode planes palette in
-          on_fields_lem (fields_refusal planes masking compression (empty_fields w h planes)) _
+          passing_lem (fields_refusal planes masking compression (empty_fields w h planes)) _
           (body_frame body w h planes masking compression room) (λ x. mode_shown mode planes (read_as (carried_lines step w h) x))
           (ap (mode_shown mode planes)
           (frame_coloured body w planes masking compression mode palette (carried_lines step w) (lines_apart w step) h room));

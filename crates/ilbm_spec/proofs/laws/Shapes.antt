@@ -2,19 +2,20 @@
 -- to, and what a check of the one asks is asked by the other or refuses it. What is made of the rows changes neither the next place nor a
 -- refusal, so the second reading of them, for the shape, ends as the first does.
 use Prim.Native.Nat.{ℕ, zero, suc}
-use Rattle.std.specs.Prelude.{◌≡◌, Bool, true, false, List, [], ◌∷◌, ◌++◌}
+use Rattle.std.specs.Prelude.{◌≡◌, Bool, true, false, List, [], ◌∷◌, ◌++◌, Result, Ok, Err}
 use Rattle.std.proofs.Math.Path.{refl}
-use Rattle.std.proofs.Common.{ap, ◌∙◌, subst, arith}
+use Rattle.std.proofs.Common.{ap, ◌∙◌, subst}
 use Rattle.iff_name.specs.Name.{both, pick}
 use Rattle.iff_tree.specs.Judge.{found, refused}
 use Rattle.ilbm_spec.specs.declared.BitmapHeader.{BitmapHeader}
 use Rattle.ilbm_spec.specs.Contents.{Located}
-use Rattle.ilbm_spec.specs.Pictures.{Viewed, header_in, data_of}
+use Rattle.ilbm_spec.specs.Pictures.{Viewed, header_in, data_of, passing}
 use Rattle.ilbm_spec.specs.Rows.{row_length, rows_in_line, Read, then_read, rows_from, Pixels, colour_numbers, line_with, lines_with}
 use Rattle.ilbm_spec.specs.Rows.{line_by, lines_by, leftover, right_length, on_body, ask_rows, line_in_body, frame_in_body, line_of, frame_of}
 use Rattle.ilbm_spec.specs.Rows.{body_line, body_frame, line_answer}
 use Rattle.ilbm_spec.specs.Shapes.{shape_bits, Shaped, together, shaped_line, shaped_lines, body_shape_line, body_shape_frame}
 use Rattle.ilbm_spec.specs.ShapeBesideColours.{ShapeBesideColours}
+use Rattle.iff_refusal.specs.declared.Reason.{Reason}
 
 -- ---- one reading and another of the same rows
 
@@ -23,8 +24,8 @@ then_alike :
     ((a : A) (b : B) (q : ℕ) → line_answer (f a q) ≡ line_answer (g b q)) → line_answer (then_read x f) ≡ line_answer (then_read y g)
 then_alike (found (a, q)) (found (b, r)) f g e rest =
     let same : q ≡ r = cc in rest a b q ∙ ap (λ (z : ℕ). line_answer (g b z)) same
-then_alike (found (a, q)) (refused k p) f g e rest = absurd (let z : ◌≡◌ {A = ℕ} 0 1 = cc in omega arith)
-then_alike (refused k p) (found (b, r)) f g e rest = absurd (let z : ◌≡◌ {A = ℕ} 0 1 = cc in omega arith)
+then_alike (found (a, q)) (refused k p) f g e rest = absurd cc
+then_alike (refused k p) (found (b, r)) f g e rest = absurd cc
 then_alike (refused k p) (refused m q) f g e rest = e
 
 module _ (f g : Pixels) (compression n rows : ℕ) (body : List ℕ) where
@@ -43,7 +44,7 @@ module _ (f g : Pixels) (compression n rows : ℕ) (body : List ℕ) where
 
 together_alike : (x y : Read (List ℕ)) → line_answer y ≡ line_answer x → line_answer (together x y) ≡ line_answer x
 together_alike (found (cs, q)) (found (bits, r)) e = refl
-together_alike (found (cs, q)) (refused k p) e = absurd (let z : ◌≡◌ {A = ℕ} 0 1 = cc in omega arith)
+together_alike (found (cs, q)) (refused k p) e = absurd cc
 together_alike (refused k p) y e = refl
 
 -- colours with their shape are told as colours without it
@@ -86,15 +87,15 @@ leftover_beside n (refused k p) y i = tt
 
 -- a check that both ask, one that is asked for the shape alone, and 28, which looks at one more lent row
 module _ (x : Read Shaped) (y : Read (List ℕ)) (i : Beside x y) where
-  checked_beside : (b : Bool) (k p : ℕ) → Beside (pick b (refused k p) x) (pick b (refused k p) y)
+  checked_beside : (b : Bool) (k : Reason) (p : ℕ) → Beside (pick b (refused k p) x) (pick b (refused k p) y)
   checked_beside true k p = tt
   checked_beside false k p = i
 
-  fields_beside : (b : Bool) (k p : ℕ) → Beside (pick b x (refused k p)) (pick b y (refused k p))
-  fields_beside true k p = i
-  fields_beside false k p = tt
+  fields_beside : (k : Result (Unit {0}) Reason) → Beside (passing k x) (passing k y)
+  fields_beside (Ok u) = i
+  fields_beside (Err k) = tt
 
-  asked_beside : (b : Bool) (k p : ℕ) → Beside (pick b (refused k p) x) y
+  asked_beside : (b : Bool) (k : Reason) (p : ℕ) → Beside (pick b (refused k p) x) y
   asked_beside true k p = tt
   asked_beside false k p = i
 

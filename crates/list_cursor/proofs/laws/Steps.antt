@@ -13,10 +13,10 @@ use Rattle.iff_rules.specs.Rules.{is_group}
 use Rattle.iff_grammar.specs.Grammar.{height}
 use Rattle.iff_grammar.proofs.laws.Read.{leaf_fits, leaf_name, leaf_size, leaf_next, leaf_rest, length_leaf, length_group, group_fits, group_name, group_size, group_type_lem, group_members}
 use Rattle.list_spec.specs.declared.Record.{Record}
-use Rattle.list_spec.specs.declared.Listed.TheVariants.{Chunk as Listed-chunk}
 use Rattle.list_spec.specs.Records.{records_from, pick_record}
 use Rattle.list_spec.proofs.laws.Counts.{pick_drop, drop_one}
 use Rattle.list_cursor.specs.Cursors.{record_at, open_level, row_bytes, pending, Ends, Ready, Stands}
+use Rattle.std.specs.Prelude.{Ok}
 
 -- ends of open groups
 
@@ -56,7 +56,7 @@ module _ {s R : List ℕ} {all : List Record} {p n l : ℕ} {ends : List ℕ} (s
     pub leaf_kind : is_group (kind_of (word s p)) ≡ false
     leaf_kind = ap (λ (k : ℕ). is_group (kind_of k)) leaf-named ∙ h.rows.0.0
 
-    pub leaf_record : pick_record all n ≡ Listed-chunk (record_at s l n p)
+    pub leaf_record : pick_record all n ≡ Ok (record_at s l n p)
     unfolding records_from
     leaf_record =
         let size : word s (p + 4) ≡ length d = leaf_size s p c d pd F _ h.rows.0 short leaf_here in
@@ -106,7 +106,7 @@ module _ {s R : List ℕ} {all : List Record} {p n l : ℕ} {ends : List ℕ} (s
     pub group_kind : is_group (kind_of (word s p)) ≡ true
     group_kind = ap (λ (k : ℕ). is_group (kind_of k)) group-named ∙ h.rows.0.0
 
-    pub group_record : pick_record all n ≡ Listed-chunk (record_at s l n p)
+    pub group_record : pick_record all n ≡ Ok (record_at s l n p)
     unfolding records_from
     group_record =
         let type : word s (p + 8) ≡ t = group_type_lem s p c t G F _ h.rows.0 short group_here in

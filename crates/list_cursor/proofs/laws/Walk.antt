@@ -6,18 +6,18 @@ use Rattle.iff_name.specs.Name.{pick, kind_of}
 use Rattle.iff_chunk.specs.Chunks.{Chunks, none, leaf, group, Chunk, a_leaf, a_group, before, bytes, count, word, next_at}
 use Rattle.iff_rules.specs.Rules.{is_group}
 use Rattle.iff_tree.specs.Judge.{Found, found, refused, read_file, verdict_of, check_of}
-use Rattle.iff_tree.specs.declared.Verdict.TheVariants.{Accepted}
 use Rattle.iff_grammar.specs.Grammar.{ChunkFile}
 use Rattle.iff_grammar.specs.Words.{Bytes}
 use Rattle.iff_grammar.proofs.laws.Names.{members_regular}
 use Rattle.iff_grammar.proofs.Accept.{sound}
 use Rattle.list_spec.specs.declared.Record.{Record}
-use Rattle.list_spec.specs.declared.Listed.TheVariants.{Chunk as Listed-chunk}
 use Rattle.list_spec.specs.Records.{records_from, records_of, record_of, count_of}
 use Rattle.list_spec.proofs.laws.Counts.{length_records}
 use Rattle.list_cursor.specs.declared.Cursor.{Cursor}
 use Rattle.list_cursor.specs.Cursors.{first_cursor, record_at, entered, passed, group_at, onward_at, Enterable, Passable, Ready, Stands, Located}
 use Rattle.list_cursor.proofs.laws.Steps.{Settled, settle, leaf_room, leaf_past, leaf_kind, leaf_record, leaf_step, group_room, group_end, group_slot, group_kind, group_record, group_step}
+use Rattle.iff_tree.specs.declared.Accepted.{Accepted}
+use Rattle.std.specs.Prelude.{Ok}
 
 clash : (P : Type 0) (b : Bool) → b ≡ true → b ≡ false → P
 clash P b e f = let z : ◌≡◌ {A = ℕ} 0 1 = cc in absurd (omega arith)
@@ -59,7 +59,7 @@ module _ (s : List ℕ) (cur : Cursor) (at : Located s cur) where
         go (group c t G F) Fs h r = g c t G F Fs h
 
     -- The header at the cursor gives the record of its number.
-    pub located_record : record_of s cur.number ≡ Listed-chunk (record_at s cur.level cur.number cur.place)
+    pub located_record : record_of s cur.number ≡ Ok (record_at s cur.level cur.number cur.place)
     unfolding Here
     located_record = rw at.accepted (by-chunk _ (λ c d pd F Fs h. leaf_record at.short h) (λ c t G F Fs h. group_record at.short h))
 
@@ -169,9 +169,9 @@ located_file s c R e f = record {
 }
 
 -- In an accepted file the first cursor is located, and the check has counted the records.
-pub located_first : (s : List ℕ) → Bytes s → (n e t : ℕ) → Accepted n e t ≡ check_of s → (Located s first_cursor) × (n ≡ count_of s)
-located_first s b n e t v = go (read_file s) refl v
+pub located_first : (s : List ℕ) → Bytes s → (v : Accepted) → Ok v ≡ check_of s → (Located s first_cursor) × (v.chunks ≡ count_of s)
+located_first s b v d = go (read_file s) refl d
   where
-    go : (f : Found Chunk) → read_file s ≡ f → Accepted n e t ≡ verdict_of s f → (Located s first_cursor) × (n ≡ count_of s)
+    go : (f : Found Chunk) → read_file s ≡ f → Ok v ≡ verdict_of s f → (Located s first_cursor) × (v.chunks ≡ count_of s)
     go (found c) x y = let g = sound s b c x in (located_file s c g.0 x g.1, rw x (cc))
     go (refused k p) x y = let z : ◌≡◌ {A = ℕ} 0 1 = cc in absurd (omega arith)

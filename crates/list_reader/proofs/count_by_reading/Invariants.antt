@@ -4,8 +4,8 @@ use Rattle.list_spec.specs.Records.{count_of}
 use Rattle.list_reader.proofs.ReaderLaws.{Counting}
 use Rattle.list_reader.proofs.count_by_reading.Given as goal
 
-abbrev pub invariant-loop-n : goal.invariant-loop-n
-invariant-loop-n l = Counting l.s l.place l.n
+abbrev pub invariant-loop-place : goal.invariant-loop-place
+invariant-loop-place l = Counting l.s l.place l.n
 
-abbrev pub decreases-loop-n : goal.decreases-loop-n
-decreases-loop-n l = count_of l.s - l.n
+abbrev pub decreases-loop-place : goal.decreases-loop-place
+decreases-loop-place l = count_of l.s - l.n

@@ -11,11 +11,11 @@ use Rattle.iff_grammar.proofs.laws.Read.{leaf_fits, leaf_data, leaf_next, leaf_r
 use Rattle.iff_grammar.proofs.laws.Names.{members_regular}
 use Rattle.iff_grammar.proofs.Accept.{sound}
 use Rattle.list_spec.specs.declared.Record.{Record}
-use Rattle.list_spec.specs.declared.Listed.{Listed}
-use Rattle.list_spec.specs.declared.Listed.TheVariants.{Chunk as Listed-chunk, Refused}
 use Rattle.list_spec.specs.Records.{records_from, pick_record, record_in, record_of}
-use Rattle.list_spec.specs.Contents.{Content, plain, members, contents_from, pick_data, data_in, data_of, extent_at, extent_in, extent_of, Lies}
+use Rattle.list_spec.specs.Contents.{Content, plain, members, contents_from, pick_data, data_in, data_of, extent_at, extent_in, extent_of, part_in, Lies}
 use Rattle.list_spec.specs.Tells.{Inside, Tells}
+use Rattle.iff_refusal.specs.Numbers.{Answer}
+use Rattle.std.specs.Prelude.{Ok, Err}
 
 -- a record is that of a chunk with this content
 abbrev Holds : List ℕ → Record → Content → Type 0
@@ -76,21 +76,21 @@ file_tells s b i = go (read_file s) refl
     go (refused k p) e = refl
 
 -- The part that the extent names is the chunk's data, and it is the empty part with a refusal.
-pub extent_lies : (s : List ℕ) → Bytes s → (i : ℕ) → Lies s (extent_of s i).from (extent_of s i).to (data_of s i)
+pub extent_lies : (s : List ℕ) → Bytes s → (i : ℕ) → Lies s (part_in (extent_of s i)).from (part_in (extent_of s i)).to (data_of s i)
 extent_lies s c i = go (record_of s i) (file_tells s c i)
   where
     nothing : (d : List ℕ) → d ≡ [] → Lies s 0 0 d
     nothing d e = record { order = omega arith; inside = omega arith; same = sym e }
 
-    at-chunk : (r : Record) (g : Bool) (d : List ℕ) → is_group r.kind ≡ g → Tells s (Listed-chunk r) d
-        → Lies s (extent_at g r).from (extent_at g r).to d
+    at-chunk : (r : Record) (g : Bool) (d : List ℕ) → is_group r.kind ≡ g → Tells s (Ok r) d
+        → Lies s (part_in (extent_at g r)).from (part_in (extent_at g r)).to d
     at-chunk r true d x t = nothing d (t.2 x)
     at-chunk r false d x t = record { order = omega arith; inside = t.0.0; same = t.1 x }
 
-    go : (l : Listed) → Tells s l (data_of s i) → Lies s (extent_in l).from (extent_in l).to (data_of s i)
-    go (Listed-chunk r) t = at-chunk r (is_group r.kind) (data_of s i) refl t
-    go (Refused k p) t = nothing (data_of s i) t
+    go : (l : Answer Record) → Tells s l (data_of s i) → Lies s (part_in (extent_in l)).from (part_in (extent_in l)).to (data_of s i)
+    go (Ok r) t = at-chunk r (is_group r.kind) (data_of s i) refl t
+    go (Err r) t = nothing (data_of s i) t
 
 -- the record of a chunk names bytes of the file
-pub record_inside : (s : List ℕ) → Bytes s → (i : ℕ) (r : Record) → Listed-chunk r ≡ record_of s i → Inside s r
-record_inside s b i r e = (subst (λ (l : Listed). Tells s l (data_of s i)) (sym e) (file_tells s b i)).0
+pub record_inside : (s : List ℕ) → Bytes s → (i : ℕ) (r : Record) → Ok r ≡ record_of s i → Inside s r
+record_inside s b i r e = (subst (λ (l : Answer Record). Tells s l (data_of s i)) (sym e) (file_tells s b i)).0

@@ -1,6 +1,6 @@
 -- One addition leaves the contents of every picture, their places moved: chunks before the boundary keep their place, chunks behind it
 -- move by the bytes added, a group around it keeps its place, and what is added has no picture in it.
-use Rattle.std.specs.Prelude.{ℕ, ◌+◌, ◌≤◌, ◌<◌, ◌≡◌, refl, Bool, List, eqb, length}
+use Rattle.std.specs.Prelude.{ℕ, ◌+◌, ◌≤◌, ◌<◌, ◌≡◌, refl, Bool, eqb, length}
 use Rattle.std.proofs.Common.{sym, ap, ◌∙◌, add-zero, arith, le-leb}
 use Rattle.std.proofs.Math.Option.{Option, none as nothing}
 use Rattle.std.proofs.lemmas.Bool.{lt-leb}
@@ -13,9 +13,8 @@ use Rattle.ilbm_spec.specs.Contents.{contents_from, moved_bodies}
 use Rattle.ilbm_spec.specs.Ignored.{Ignored, span, Passes, Known}
 use Rattle.ilbm_spec.proofs.laws.Ignored.{known, named_past, bodies_past, scope_past, contents_past}
 use Rattle.ilbm_spec.specs.Moved.{moved_option, map_contents, ChunksMove, SameScope}
-use Rattle.ilbm_spec.proofs.laws.Moved.{pick_moved, ended_moved, body_moved, named_carried}
+use Rattle.ilbm_spec.proofs.laws.Moved.{pick_moved, ended_moved, body_moved, named_carried, scope_carried, contents_carried}
 use Rattle.ilbm_spec.proofs.laws.Moved.{bodies_carried, content_moved, content_carried, group_moved, pick_scope, prop_moved, prop_carried}
-use Rattle.ilbm_spec.proofs.laws.Moved.{scope_carried, contents_carried}
 use Rattle.theorem_additions.specs.Additions.{Boundary, here, past, into, insert, boundary_place, bytes_of, moved}
 use Rattle.theorem_additions.proofs.laws.Bytes.{At, length_insert}
 

@@ -1,7 +1,7 @@
 -- No call looks at the place of a chunk but to tell it, so where the contents of all pictures are the same but for their places, every call
 -- answers the same but for them.
 use Prim.Native.Nat.{ℕ, zero, suc, ◌+◌, ◌-◌, ◌/◌}
-use Rattle.std.specs.Prelude.{◌≡◌, Bool, eqb, ltb, length}
+use Rattle.std.specs.Prelude.{◌≡◌, Bool, ltb, length, Result, Ok, Err}
 use Rattle.std.proofs.Math.Path.{refl, ap, ap₂}
 use Rattle.std.proofs.Common.{sym, ◌∙◌, arith, ne_eqb}
 use Rattle.std.proofs.Math.Bool.{true, false}
@@ -9,11 +9,10 @@ use mathlib.Core.List.{List, [], ◌∷◌}
 use Rattle.iff_name.specs.Name.{pick}
 use Rattle.iff_chunk.specs.Chunks.{Chunk}
 use Rattle.iff_tree.specs.Judge.{Found, found, read_file, refused}
-use Rattle.ilbm_spec.specs.declared.TableAnswer.TheVariants.{Pictures}
 use Rattle.ilbm_spec.specs.Names.{ILBM}
 use Rattle.ilbm_spec.specs.Contents.{Located, Property, own, shared, absent, Content, contents_of, moved_located, moved_property}
 use Rattle.ilbm_spec.specs.Contents.{moved_bodies, moved_content}
-use Rattle.ilbm_spec.specs.Pictures.{data_of, counts, wrong_size, picture_refusal, Viewed, judged, pick_content, view_in, view_of}
+use Rattle.ilbm_spec.specs.Pictures.{data_of, counts, wrong_size, picture_refusal, Viewed, passing, judged, pick_content, view_in, view_of}
 use Rattle.ilbm_spec.specs.Pictures.{origin_of, picture_from, picture_answer, palette_of_property}
 use Rattle.ilbm_spec.specs.Palette.{answer_in, extent_of, extent_from, extent_in}
 use Rattle.ilbm_spec.specs.Rows.{Read, on_body, ask_body, line_of, frame_of}
@@ -21,11 +20,14 @@ use Rattle.ilbm_spec.specs.Shapes.{Shaped, shape_line_of, shape_frame_of}
 use Rattle.ilbm_spec.specs.Colours.{colour_line_of, colour_frame_of}
 use Rattle.ilbm_spec.specs.Triples.{triples_in}
 use Rattle.ilbm_spec.specs.Moved.{map_contents}
-use Rattle.ilbm_spec.specs.Table.{property_row, body_row, PictureRow, row_with, without_parts, picture_row, picture_rows}
+use Rattle.ilbm_spec.specs.Table.{property_row, body_row, PictureRow, row_with, without_parts, shown_parts, picture_row, picture_rows}
 use Rattle.ilbm_spec.specs.Table.{rows_for, table_of, table_answer}
 use Rattle.theorem_additions.specs.Statement.{moved_view, moved_origin, moved_answer, moved_extent, moved_property_row, moved_body_row}
 use Rattle.theorem_additions.specs.Statement.{moved_row, moved_rows, moved_table, line_told, frame_told, shape_line_told, shape_frame_told}
 use Rattle.theorem_additions.specs.Statement.{SameAnswers}
+use Rattle.iff_refusal.specs.declared.Reason.TheVariants.{TableTooShort}
+use Rattle.iff_refusal.specs.declared.Reason.{Reason}
+use Rattle.iff_refusal.specs.Numbers.{number_of, number_unless}
 
 module _ (move : ℕ → ℕ) where
   counts_moved : (q : Property) → counts (moved_property move q) ≡ counts q
@@ -53,11 +55,11 @@ module _ (move : ℕ → ℕ) where
   refusal_moved c = rw (count_moved c.bodies) (simp (counts_moved, data_moved))
 
   judged_moved : (c : Content) → judged (moved_content move c) ≡ moved_view move (judged c)
-  judged_moved c = rw (refusal_moved c) (go (eqb (picture_refusal c) 0))
+  judged_moved c = rw (refusal_moved c) (go (picture_refusal c))
     where
-      go : (b : Bool) → pick b (found (moved_content move c)) (refused (picture_refusal c) 0) ≡ moved_view move (pick b (found c) (refused (picture_refusal c) 0))
-      go true = refl
-      go false = refl
+      go : (r : Result (Unit {0}) Reason) → passing r (found (moved_content move c)) ≡ moved_view move (passing r (found c))
+      go (Ok u) = refl
+      go (Err k) = refl
 
   pick_moved : (cs : List Content) (i : ℕ) → pick_content (map_contents move cs) i ≡ moved_view move (pick_content cs i)
   unfolding pick_content
@@ -142,13 +144,13 @@ module _ (move : ℕ → ℕ) where
 
   row_moved : (c : Content) → picture_row (moved_content move c) ≡ moved_row move (picture_row c)
   unfolding picture_row moved_bodies
-  row_moved c = rw (refusal_moved c) (go (picture_refusal c) (eqb (picture_refusal c) 0))
+  row_moved c = rw (refusal_moved c) (go (picture_refusal c))
     where
       go :
-          (k : ℕ) (b : Bool) → row_with k (pick b (moved_content move c) (without_parts (moved_content move c)))
-          ≡ moved_row move (row_with k (pick b c (without_parts c)))
-      go k true = row_with_lem k c
-      go k false = row_with_lem k (without_parts c)
+          (r : Result (Unit {0}) Reason) → row_with (number_unless r) (shown_parts r (moved_content move c))
+          ≡ moved_row move (row_with (number_unless r) (shown_parts r c))
+      go (Ok u) = row_with_lem 0 c
+      go (Err k) = row_with_lem (number_of k) (without_parts c)
 
   table_rows : (cs : List Content) → picture_rows (map_contents move cs) ≡ moved_rows move (picture_rows cs)
   unfolding picture_rows
@@ -166,13 +168,13 @@ module _ (move : ℕ → ℕ) where
       rw (e, as_many (contents_of c), table_rows (contents_of c)) (go (ltb (room / 30) (length (contents_of c))))
     where
       go :
-          (b : Bool) → pick b (refused 13 0) (found (moved_rows move (picture_rows (contents_of c))))
-          ≡ moved_table move (pick b (refused 13 0) (found (picture_rows (contents_of c))))
+          (b : Bool) → pick b (refused TableTooShort 0) (found (moved_rows move (picture_rows (contents_of c))))
+          ≡ moved_table move (pick b (refused TableTooShort 0) (found (picture_rows (contents_of c))))
       go true = refl
       go false = refl
 
   answer_moved : (t : Found (List PictureRow)) → table_answer (moved_table move t) ≡ table_answer t
-  answer_moved (found rs) = ap Pictures (go rs)
+  answer_moved (found rs) = ap Ok (go rs)
     where
       go : (rs : List PictureRow) → length (moved_rows move rs) ≡ length rs
       go [] = refl

@@ -12,7 +12,7 @@ use Rattle.iff_grammar.specs.Grammar.{Members}
 use Rattle.ilbm_spec.specs.Names.{is_picture_type, foreign}
 use Rattle.ilbm_spec.specs.Contents.{no_picture}
 use Rattle.ilbm_spec.specs.Ignored.{Ignored}
-use Rattle.theorem_additions.specs.Additions.{LocalMay, LeafMay, GroupMay, PropMay, Boundary, here, past, into, May, insert}
+use Rattle.theorem_additions.specs.Additions.{LocalMay, LeafMay, GroupMay, PropMay, Boundary, here, past, into, May}
 use Rattle.theorem_additions.proofs.laws.Insert.{no}
 use Rattle.iff_name.specs.Codes as Codes
 

@@ -1,7 +1,7 @@
--- A file that is a sound one up to a header m, where a version name stands, is refused with 3 at m: every chunk before m passes
+-- A file that is a sound one up to a header m, where a version name stands, is refused for it at m: every chunk before m passes
 -- all tests, since these look at bytes before m only, and each group around m is opened.
 use Prim.Native.Nat.{ℕ, zero, suc, ◌+◌, ◌-◌, ◌%◌, ◌≤◌, ◌<◌}
-use Rattle.std.specs.Prelude.{◌≡◌, refl, true, take}
+use Rattle.std.specs.Prelude.{◌≡◌, refl, true, take, Ok, Err}
 use Rattle.std.proofs.Common.{sym, ap, ap₂, ◌∙◌}
 use Rattle.std.proofs.Math.Path.{subst, subst₂}
 use Rattle.std.proofs.Math.Bool.{false}
@@ -14,7 +14,7 @@ use Rattle.iff_name.specs.Name.{version_name, kind_of}
 use Rattle.iff_name.specs.declared.Kind.{Kind}
 use Rattle.iff_rules.specs.declared.Position.{Position}
 use Rattle.iff_rules.specs.declared.Position.TheVariants.{Outermost}
-use Rattle.iff_header.specs.declared.Header.TheVariants.{Refused as Header-refused, Leaf, Group}
+use Rattle.iff_header.specs.declared.Header.TheVariants.{Leaf, Group}
 use Rattle.iff_chunk.specs.Chunks.{Chunks, none, leaf, group, Chunk, a_leaf, a_group, bytes, word, next_at}
 use Rattle.iff_rules.specs.Rules.{inside, after, second_prop}
 use Rattle.iff_header.specs.Checks.{header_of}
@@ -38,39 +38,41 @@ use Rattle.theorem_additions.specs.Statement.{line_told, frame_told, shape_line_
 use Rattle.theorem_additions.proofs.laws.Bytes.{pass}
 use Rattle.theorem_additions.proofs.laws.Places.{HeaderAt, none_case, leaf_cases, group_cases, header_low}
 use Rattle.theorem_additions.proofs.laws.Renamed.{version_formed, same_word, same_front}
+use Rattle.iff_refusal.specs.declared.Reason.TheVariants.{VersionName}
+use Rattle.iff_refusal.specs.declared.Reason.{Reason}
 
-run_stops : (chunk : Position → ℕ → ℕ → Found Chunk) (s : List ℕ) (fuel : ℕ) (w : Position) (p e k m : ℕ)
+run_stops : (chunk : Position → ℕ → ℕ → Found Chunk) (s : List ℕ) (fuel : ℕ) (w : Position) (p e : ℕ) (k : Reason) (m : ℕ)
     → p < e → chunk w p e ≡ refused k m → run chunk s (suc fuel) w p e ≡ refused k m
 unfolding run
 run_stops chunk s fuel w p e k m l h = rw (lt-ltb p e l, h)
 
-run_on : (chunk : Position → ℕ → ℕ → Found Chunk) (s : List ℕ) (fuel : ℕ) (w w' : Position) (p q e k m : ℕ) (c : Chunk)
+run_on : (chunk : Position → ℕ → ℕ → Found Chunk) (s : List ℕ) (fuel : ℕ) (w w' : Position) (p q e : ℕ) (k : Reason) (m : ℕ) (c : Chunk)
     → p < e → chunk w p e ≡ found c → after w (kind_of (word s p)) ≡ w' → next_at s p ≡ q → run chunk s fuel w' q e ≡ refused k m
     → run chunk s (suc fuel) w p e ≡ refused k m
 unfolding run
 run_on chunk s fuel w w' p q e k m c l h a n r = rw (lt-ltb p e l, h, a, n, r)
 
-leaf_found : (levels : ℕ) (s : List ℕ) (from : ℕ) (w : Position) (p e z : ℕ) → header_of levels s from w p e ≡ Leaf z
+leaf_found : (levels : ℕ) (s : List ℕ) (from : ℕ) (w : Position) (p e z : ℕ) → header_of levels s from w p e ≡ Ok (Leaf z)
     → chunk_at levels s from w p e ≡ found (a_leaf (word s p) (slice (p + 8) (p + 8 + z) s) (slice (p + 8 + z) (p + 8 + z + z % 2) s))
 unfolding chunk_at
 leaf_found zero s from w p e z h = rw h
 leaf_found (suc levels) s from w p e z h = rw h
 
-bad_found : (levels : ℕ) (s : List ℕ) (from : ℕ) (w : Position) (p e k : ℕ) → header_of levels s from w p e ≡ Header-refused k →
+bad_found : (levels : ℕ) (s : List ℕ) (from : ℕ) (w : Position) (p e : ℕ) (k : Reason) → header_of levels s from w p e ≡ Err k →
     chunk_at levels s from w p e ≡ refused k p
 unfolding chunk_at
 bad_found zero s from w p e k h = rw h
 bad_found (suc levels) s from w p e k h = rw h
 
-group_stops : (levels : ℕ) (s : List ℕ) (from : ℕ) (w : Position) (p e : ℕ) (k : Kind) (z n m : ℕ) →
-    header_of (suc levels) s from w p e ≡ Group k z
+group_stops : (levels : ℕ) (s : List ℕ) (from : ℕ) (w : Position) (p e : ℕ) (k : Kind) (z : ℕ) (n : Reason) (m : ℕ) →
+    header_of (suc levels) s from w p e ≡ Ok (Group k z)
     → run (chunk_at levels s (p + 12)) s (p + 8 + z - (p + 12)) (inside k) (p + 12) (p + 8 + z) ≡ refused n m
     → chunk_at (suc levels) s from w p e ≡ refused n m
 unfolding chunk_at
 group_stops levels s from w p e k z n m h r = rw (h, r)
 
 version_header : (levels : ℕ) (s : List ℕ) (from : ℕ) (w : Position) (p e : ℕ) → p + 8 ≤ e → version_name (word s p) ≡ true →
-    header_of levels s from w p e ≡ Header-refused 3
+    header_of levels s from w p e ≡ Err VersionName
 unfolding header_of
 version_header levels s from w p e h v = rw (le-ltb (e - p) 8 (omega arith), version_formed (word s p) v, v)
 
@@ -83,15 +85,15 @@ module _ (s g : List ℕ) (m : ℕ) (same : take m g ≡ take m s) (version : ve
       let part : slice p q g ≡ xs = ap (λ (l : List ℕ). drop p l) (same_front s g m q same h) ∙ slice_at s xs ys p q e refl in
       drop_slice g p q (omega arith) ∙ ap (λ (l : List ℕ). l ++ drop q g) part
 
-  there : (levels from : ℕ) (w : Position) (p e : ℕ) → p ≡ m → p + 8 ≤ e → chunk_at levels g from w p e ≡ refused 3 m
+  there : (levels from : ℕ) (w : Position) (p e : ℕ) → p ≡ m → p + 8 ≤ e → chunk_at levels g from w p e ≡ refused VersionName m
   there levels from w p e i h =
       let v : version_name (word g p) ≡ true = subst (λ (q : ℕ). version_name (word g q) ≡ true) (sym i) version in
-      bad_found levels g from w p e 3 (version_header levels g from w p e h v) ∙ ap (refused 3) i
+      bad_found levels g from w p e VersionName (version_header levels g from w p e h v) ∙ ap (refused VersionName) i
 
   opened :
       (levels from : ℕ) (w : Position) (p e : ℕ) (seen : List ℕ) (n t : ℕ) (G F : Chunks) (R : List ℕ) →
       Members w seen (group n t G F) → drop p s ≡ bytes (group n t G F) ++ R → p + 12 ≤ m → p + 12 + length (bytes G) ≤ e →
-      Seen g from p seen → header_of (suc levels) g from w p e ≡ Group (kind_of n) (4 + length (bytes G))
+      Seen g from p seen → header_of (suc levels) g from w p e ≡ Ok (Group (kind_of n) (4 + length (bytes G)))
   opened levels from w p e seen n t G F R x at l fit h =
       let r = members_regular w seen (group n t G F) x in
       let name : word g p ≡ n = same_word s g m p same (omega arith) ∙ group_name s p n t G F R r short at in
@@ -104,7 +106,7 @@ module _ (s g : List ℕ) (m : ℕ) (same : take m g ≡ take m s) (version : ve
       let four : 4 ≤ word g (p + 4) = omega arith in
       let first : second_prop (kind_of n) g from p t ≡ false = not-true _ (sym (new_second (kind_of n) g from p t seen h) ∙ x.3) in
       header_group levels g from w p e (rw name (group_chunk_name n x.0)) (rw name x.1) (rw next fit) (rw name x.0) four (rw (name, type) x.2) (rw (name, type) first)
-      ∙ ap₂ Group (ap kind_of name) size
+      ∙ ap₂ (λ (k : Kind) (z : ℕ). Ok (Group k z)) (ap kind_of name) size
 
   -- a group before m is found, and the run goes on behind it
   passed :
@@ -113,8 +115,8 @@ module _ (s g : List ℕ) (m : ℕ) (same : take m g ≡ take m s) (version : ve
       Seen g from p seen → p + (12 + length (bytes G)) ≤ e →
       (Members (after w (kind_of n)) (seen_after (kind_of n) t seen) F →
       Seen g from (p + (12 + length (bytes G))) (seen_after (kind_of n) t seen)
-      → run (chunk_at (suc levels) g from) g fuel (after w (kind_of n)) (p + (12 + length (bytes G))) e ≡ refused 3 m) →
-      run (chunk_at (suc levels) g from) g (suc fuel) w p e ≡ refused 3 m
+      → run (chunk_at (suc levels) g from) g fuel (after w (kind_of n)) (p + (12 + length (bytes G))) e ≡ refused VersionName m) →
+      run (chunk_at (suc levels) g from) g (suc fuel) w p e ≡ refused VersionName m
   unfolding bytes
   passed levels from w p e fuel seen n t G F R x l at before-m h fit rest =
       let one : Members w seen (group n t G none) = (x.0, x.1, x.2, x.3, x.4, tt) in
@@ -137,12 +139,12 @@ module _ (s g : List ℕ) (m : ℕ) (same : take m g ≡ take m s) (version : ve
       let same_seen : seen_after (kind_of (word g p)) (word g (p + 8)) seen ≡ seen' = rw (name, type) in
       let on : Seen g from q seen' = subst₂ (λ (j : ℕ) (u : List ℕ). Seen g from j u) next same_seen (seen_step g from p seen h) in
       let pos : after w (kind_of (word g p)) ≡ after w (kind_of n) = rw name in
-      run_on (chunk_at (suc levels) g from) g fuel w (after w (kind_of n)) p q e 3 m _ (omega arith) found_it pos next (rest x.5 on)
+      run_on (chunk_at (suc levels) g from) g fuel w (after w (kind_of n)) p q e VersionName m _ (omega arith) found_it pos next (rest x.5 on)
 
   run_refused :
       (F : Chunks) (levels from : ℕ) (w : Position) (p e fuel : ℕ) (seen R : List ℕ) →
       Members w seen F → height F ≤ levels → drop p s ≡ bytes F ++ R → p + length (bytes F) ≡ e → length (bytes F) ≤ fuel →
-      Seen g from p seen → HeaderAt m p F → run (chunk_at levels g from) g fuel w p e ≡ refused 3 m
+      Seen g from p seen → HeaderAt m p F → run (chunk_at levels g from) g fuel w p e ≡ refused VersionName m
   unfolding bytes
   run_refused none levels from w p e fuel seen R x l at to f h k = none_case m p k
   run_refused (leaf n d pd F) levels from w p e zero seen R x l at to f h k = absurd (omega (arith, length_leaf n d pd F))
@@ -150,7 +152,7 @@ module _ (s g : List ℕ) (m : ℕ) (same : take m g ≡ take m s) (version : ve
       let r = members_regular w seen (leaf n d pd F) x in
       let len = length_leaf n d pd F in
       let q : ℕ = p + (8 + length d + length pd) in
-      leaf_cases m p n d pd F k (λ i. run_stops (chunk_at levels g from) g fuel w p e 3 m (omega arith) (there levels from w p e i (omega arith)))
+      leaf_cases m p n d pd F k (λ i. run_stops (chunk_at levels g from) g fuel w p e VersionName m (omega arith) (there levels from w p e i (omega arith)))
       (λ i.
       let low = header_low F m q i in
       let name : word g p ≡ n = same_word s g m p same (omega arith) ∙ leaf_name s p n d pd F R r short at in
@@ -165,7 +167,7 @@ module _ (s g : List ℕ) (m : ℕ) (same : take m g ≡ take m s) (version : ve
       let on : Seen g from q seen = subst₂ (λ (j : ℕ) (u : List ℕ). Seen g from j u) next same_seen (seen_step g from p seen h) in
       let next' : next_at s p ≡ q = leaf_next s p n d pd F R r short at ∙ omega arith in
       let rest : drop q s ≡ bytes F ++ R = subst (λ (j : ℕ). drop j s ≡ bytes F ++ R) next' (leaf_rest s p n d pd F R r short at) in
-      run_on (chunk_at levels g from) g fuel w w p q e 3 m _ (omega arith) one pos next
+      run_on (chunk_at levels g from) g fuel w w p q e VersionName m _ (omega arith) one pos next
       (run_refused F levels from w q e fuel seen R x.4 l rest (omega arith) (omega arith) on i))
   run_refused (group n t G F) levels from w p e zero seen R x l at to f h k = absurd (omega (arith, length_group n t G F))
   run_refused (group n t G F) zero from w p e (suc fuel) seen R x l at to f h k = absurd (omega arith)
@@ -177,12 +179,12 @@ module _ (s g : List ℕ) (m : ℕ) (same : take m g ≡ take m s) (version : ve
       let z : ℕ = 4 + length (bytes G) in
       let body = group_members s p n t G F R r short at in
       group_cases m p n t G F k
-      (λ i. run_stops (chunk_at (suc levels) g from) g fuel w p e 3 m (omega arith) (there (suc levels) from w p e i (omega arith)))
+      (λ i. run_stops (chunk_at (suc levels) g from) g fuel w p e VersionName m (omega arith) (there (suc levels) from w p e i (omega arith)))
       (λ i.
       let low = header_low G m c i in
       let head = opened levels from w p e seen n t G F R x at low (omega arith) h in
       let inner = run_refused G levels c (inside (kind_of n)) c (p + 8 + z) (p + 8 + z - c) [] (bytes F ++ R) x.4 (omega arith) body (omega arith) (omega arith) (seen_start g c) i in
-      run_stops (chunk_at (suc levels) g from) g fuel w p e 3 m (omega arith) (group_stops levels g from w p e (kind_of n) z 3 m head inner))
+      run_stops (chunk_at (suc levels) g from) g fuel w p e VersionName m (omega arith) (group_stops levels g from w p e (kind_of n) z VersionName m head inner))
       (λ i.
       let low = header_low F m q i in
       passed levels from w p e fuel seen n t G F R x (omega arith) at (omega arith) h (omega arith)
@@ -192,7 +194,7 @@ module _ (s g : List ℕ) (m : ℕ) (same : take m g ≡ take m s) (version : ve
       run_refused F (suc levels) from (after w (kind_of n)) q e fuel (seen_after (kind_of n) t seen) R x' (omega arith) rest (omega arith) (omega arith) on i))
 
   pub file_refused : (n t : ℕ) (G : Chunks) (R : List ℕ) → ChunkFile s (a_group n t G) R → HeaderAt m 12 G → length g ≡ length s →
-      read_file g ≡ refused 3 m
+      read_file g ≡ refused VersionName m
   unfolding read_file
   file_refused n t G R f k same_length =
       let x = f.tree in
@@ -206,11 +208,11 @@ module _ (s g : List ℕ) (m : ℕ) (same : take m g ≡ take m s) (version : ve
       let head = opened 15 0 Outermost 0 (length g) [] n t G none R x f.whole low (omega arith) (seen_start g 0) in
       let body = group_members s 0 n t G none R r short f.whole in
       let inner = run_refused G 15 12 (inside (kind_of n)) 12 (8 + z) (8 + z - 12) [] (bytes none ++ R) x.4 deep body (omega arith) (omega arith) (seen_start g 12) k in
-      let chunk = group_stops 15 g 0 Outermost 0 (length g) (kind_of n) z 3 m head inner in
+      let chunk = group_stops 15 g 0 Outermost 0 (length g) (kind_of n) z VersionName m head inner in
       rw (le-ltb 16777216 (length g) short', le-ltb (length g) 4 (omega arith), name, not-version, x.1, chunk)
 
 -- a file that is refused gives its refusal to every call
-pub all_refused : (g : List ℕ) (p : ℕ) → read_file g ≡ refused 3 p → AllRefused g p
+pub all_refused : (g : List ℕ) (p : ℕ) → read_file g ≡ refused VersionName p → AllRefused g p
 all_refused g p e = record {
   check = ap (verdict_of g) e;
   views = λ i. ap (λ (r : Found Chunk). view_in r i) e;

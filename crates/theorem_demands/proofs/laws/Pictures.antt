@@ -1,15 +1,15 @@
--- A picture is refused by the file's numbers and by those of pictures: its number is one of these where it is not 0. Rows are asked of such
--- a picture, and each row that is read is whole or refused by 27 or 26, so are rows and scan lines one after the other, whatever is made of
--- them, read once, or twice for the shape too. Of a BODY by itself they are asked after its header's fields, whose number is one of four
--- where it is not 0.
-use Rattle.std.specs.Prelude.{ℕ, zero, suc, ◌≡◌, refl, Bool, true, false, List, [], ◌∷◌, eqb}
-use Rattle.iff_name.specs.Name.{either, pick}
+-- A picture is refused by the file's numbers and by those of pictures: its checks pass or have one of these. Rows are asked of such a
+-- picture, and each row that is read is whole or refused by 27 or 26, so are rows and scan lines one after the other, whatever is made of
+-- them, read once, or twice for the shape too. Of a BODY by itself they are asked after its header's fields, whose check passes or has one
+-- of four.
+use Rattle.std.specs.Prelude.{ℕ, zero, suc, ◌≡◌, refl, Bool, true, false, List, [], ◌∷◌, Result, Ok, Err}
+use Rattle.iff_name.specs.Name.{pick}
 use Rattle.iff_chunk.specs.Chunks.{Chunk}
 use Rattle.iff_tree.specs.Judge.{Found, found, refused, read_file}
 use Rattle.byterun_row.specs.ByteRun.{Row, filled, over, short}
 use Rattle.ilbm_spec.specs.declared.BitmapHeader.{BitmapHeader}
 use Rattle.ilbm_spec.specs.Contents.{Located, Content, contents_of}
-use Rattle.ilbm_spec.specs.Pictures.{Viewed, fields_refusal, header_refusal, picture_refusal, judged, pick_content, view_in, view_of}
+use Rattle.ilbm_spec.specs.Pictures.{Viewed, fields_refusal, header_refusal, picture_refusal, passing, judged, pick_content, view_in, view_of}
 use Rattle.ilbm_spec.specs.Rows.{Read, then_read, row_read, rows_from, Pixels, line_with, lines_with, leftover, line_in_body, frame_in_body}
 use Rattle.ilbm_spec.specs.Rows.{on_body, ask_body, line_of, frame_of}
 use Rattle.ilbm_spec.specs.Shapes.{shape_line_of, shape_frame_of, shape_line_in_body, shape_frame_in_body}
@@ -18,47 +18,53 @@ use Rattle.theorem_demands.specs.Numbers.{structural, of_picture, of_rows, of_li
 use Rattle.theorem_demands.specs.Numbers.{and_shape, and_colours, among, OneOf}
 use Rattle.theorem_demands.proofs.laws.Numbers.{Refuses, without_place, choice_refuses, within, among_within, widened}
 use Rattle.theorem_demands.proofs.laws.Structure.{file_refuses}
+use Rattle.iff_refusal.specs.declared.Reason.{Reason}
+use Rattle.iff_refusal.specs.declared.Reason.TheVariants.{NoBody}
+use Rattle.iff_refusal.specs.Numbers.{number_of}
 
 -- ---- the picture
 
-abbrev ZeroOr : List ℕ → ℕ → Type 0
-ZeroOr numbers k = among k (0 ∷ numbers) ≡ true
+-- a check that passes, or refuses by one of these numbers
+abbrev PassesOr : List ℕ → Result (Unit {0}) Reason → Type 0
+PassesOr numbers (Ok u) = Unit {0}
+PassesOr numbers (Err k) = among (number_of k) numbers ≡ true
 
-choice_number : (numbers : List ℕ) (b : Bool) (m n : ℕ) → ZeroOr numbers m → ZeroOr numbers n → ZeroOr numbers (pick b m n)
-choice_number numbers true m n i j = i
-choice_number numbers false m n i j = j
+check_choice :
+    (numbers : List ℕ) (b : Bool) (x y : Result (Unit {0}) Reason) → PassesOr numbers x → PassesOr numbers y → PassesOr numbers (pick b x y)
+check_choice numbers true x y i j = i
+check_choice numbers false x y i j = j
 
-field_number : (planes masking compression : ℕ) (empty : Bool) → ZeroOr of_fields (fields_refusal planes masking compression empty)
+field_number : (planes masking compression : ℕ) (empty : Bool) → PassesOr of_fields (fields_refusal planes masking compression empty)
 unfolding fields_refusal among
-field_number planes masking compression empty = search choice_number
+field_number planes masking compression empty = search check_choice
+
+more_numbers : (xs ys : List ℕ) → within xs ys ≡ true → (x : Result (Unit {0}) Reason) → PassesOr xs x → PassesOr ys x
+more_numbers xs ys w (Ok u) i = tt
+more_numbers xs ys w (Err k) i = among_within xs ys (number_of k) w i
 
 fields_number :
-    (numbers : List ℕ) (planes masking compression : ℕ) (empty : Bool) → within (0 ∷ of_fields) (0 ∷ numbers) ≡ true →
-    ZeroOr numbers (fields_refusal planes masking compression empty)
+    (numbers : List ℕ) (planes masking compression : ℕ) (empty : Bool) → within of_fields numbers ≡ true →
+    PassesOr numbers (fields_refusal planes masking compression empty)
 fields_number numbers planes masking compression empty w =
-    among_within (0 ∷ of_fields) (0 ∷ numbers) _ w (field_number planes masking compression empty)
+    more_numbers of_fields numbers w (fields_refusal planes masking compression empty) (field_number planes masking compression empty)
 
-header_number : (b : BitmapHeader) (hasBody : Bool) → ZeroOr of_picture (header_refusal b hasBody)
+header_number : (b : BitmapHeader) (hasBody : Bool) → PassesOr of_picture (header_refusal b hasBody)
 unfolding header_refusal within among
 header_number b hasBody = fields_number of_picture b.planes b.masking b.compression _ refl
 
-picture_number : (c : Content) → ZeroOr of_picture (picture_refusal c)
+picture_number : (c : Content) → PassesOr of_picture (picture_refusal c)
 unfolding picture_refusal among
-picture_number c = search (choice_number, header_number)
+picture_number c = search (check_choice, header_number)
 
--- a refusal by this number, unless it is 0
-unless_zero :
-    {A : Type 0} (numbers : List ℕ) (k : ℕ) (x : Found A) → ZeroOr numbers k → Refuses numbers x →
-    Refuses numbers (pick (eqb k 0) x (refused k 0))
-unfolding among
-unless_zero {A} numbers k x i j = go (eqb k 0) i
-  where
-    go : (b : Bool) → either b (among k numbers) ≡ true → Refuses {A = A} numbers (pick b x (refused k 0))
-    go true i = j
-    go false i = without_place numbers k i
+-- what is found behind such a check
+passing_refuses :
+    {A : Type 0} (numbers : List ℕ) (r : Result (Unit {0}) Reason) (x : Found A) → PassesOr numbers r → Refuses numbers x →
+    Refuses numbers (passing r x)
+passing_refuses numbers (Ok u) x i j = j
+passing_refuses numbers (Err k) x i j = without_place numbers (number_of k) i
 
 judged_refuses : (c : Content) → Refuses of_picture (judged c)
-judged_refuses c = unless_zero of_picture (picture_refusal c) (found c) (picture_number c) tt
+judged_refuses c = passing_refuses of_picture (picture_refusal c) (found c) (picture_number c) tt
 
 pick_refuses : (cs : List Content) (i : ℕ) → Refuses of_picture (pick_content cs i)
 unfolding pick_content among
@@ -112,14 +118,15 @@ lines_refuse pixels compression n rows body (suc lines) at =
 -- ---- rows asked of a picture
 
 body_refuses :
-    {A : Type 0} (numbers : List ℕ) (rows : List ℕ → Read A) → OneOf numbers 25 0 → ((body : List ℕ) → Refuses numbers (rows body)) →
+    {A : Type 0} (numbers : List ℕ) (rows : List ℕ → Read A) →
+    OneOf numbers (number_of NoBody) 0 → ((body : List ℕ) → Refuses numbers (rows body)) →
     (bodies : List Located) → Refuses numbers (on_body bodies rows)
 body_refuses numbers rows i j [] = i
 body_refuses numbers rows i j (body ∷ others) = j body.content
 
 asked_refuses :
     {A : Type 0} (numbers : List ℕ) (v : Viewed) (rows : Content → List ℕ → Read A) → within of_picture numbers ≡ true →
-    OneOf numbers 25 0 → Refuses of_picture v → ((c : Content) (body : List ℕ) → Refuses numbers (rows c body)) →
+    OneOf numbers (number_of NoBody) 0 → Refuses of_picture v → ((c : Content) (body : List ℕ) → Refuses numbers (rows c body)) →
     Refuses numbers (ask_body v rows)
 asked_refuses numbers (found c) rows w i j each = search (body_refuses, each)
 asked_refuses numbers (refused k p) rows w i j each = widened {A = Content} of_picture numbers w (refused k p) j
@@ -155,14 +162,14 @@ pub body_line_refuses :
     Refuses of_body_line (line_in_body body w planes masking compression start room)
 unfolding within among
 body_line_refuses body w planes masking compression start room =
-    search (unless_zero, fields_number, choice_refuses, of_line_lem)
+    search (passing_refuses, fields_number, choice_refuses, of_line_lem)
 
 pub body_frame_refuses :
     (body : List ℕ) (w h planes masking compression room : ℕ) →
     Refuses of_body_frame (frame_in_body body w h planes masking compression room)
 unfolding within among
 body_frame_refuses body w h planes masking compression room =
-    search (unless_zero, fields_number, choice_refuses, leftover_refuses, of_lines)
+    search (passing_refuses, fields_number, choice_refuses, leftover_refuses, of_lines)
 
 -- ---- with the shape
 
@@ -180,14 +187,14 @@ pub body_shape_line_refuses :
     Refuses (and_shape of_body_line) (shape_line_in_body body w planes masking compression transparent start room shapeRoom)
 unfolding within among
 body_shape_line_refuses body w planes masking compression transparent start room shapeRoom =
-    search (unless_zero, fields_number, choice_refuses, read_refuses, of_line_lem) depth 8
+    search (passing_refuses, fields_number, choice_refuses, read_refuses, of_line_lem) depth 8
 
 pub body_shape_frame_refuses :
     (body : List ℕ) (w h planes masking compression transparent room shapeRoom : ℕ) →
     Refuses (and_shape of_body_frame) (shape_frame_in_body body w h planes masking compression transparent room shapeRoom)
 unfolding within among
 body_shape_frame_refuses body w h planes masking compression transparent room shapeRoom =
-    search (unless_zero, fields_number, choice_refuses, leftover_refuses, read_refuses, of_lines) depth 8
+    search (passing_refuses, fields_number, choice_refuses, leftover_refuses, read_refuses, of_lines) depth 8
 
 -- ---- in colours
 
@@ -206,11 +213,11 @@ pub body_colour_line_refuses :
     Refuses (and_colours of_body_line) (colour_line_in_body body w planes masking compression mode palette start room)
 unfolding within among
 body_colour_line_refuses body w planes masking compression mode palette start room =
-    search (unless_zero, fields_number, choice_refuses, of_line_lem) depth 8
+    search (passing_refuses, fields_number, choice_refuses, of_line_lem) depth 8
 
 pub body_colour_frame_refuses :
     (body : List ℕ) (w h planes masking compression mode : ℕ) (palette : List ℕ) (room : ℕ) →
     Refuses (and_colours of_body_frame) (colour_frame_in_body body w h planes masking compression mode palette room)
 unfolding within among
 body_colour_frame_refuses body w h planes masking compression mode palette room =
-    search (unless_zero, fields_number, choice_refuses, leftover_refuses, of_lines) depth 8
+    search (passing_refuses, fields_number, choice_refuses, leftover_refuses, of_lines) depth 8

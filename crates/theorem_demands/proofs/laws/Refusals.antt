@@ -10,6 +10,7 @@ refusals =
       clean_copy = FileCalls.clean_copy;
       record_by_number = FileCalls.record_by_number;
       chunk_data = FileCalls.chunk_data;
+      chunk_extent = FileCalls.chunk_extent;
       table = FileCalls.table;
       reader = FileCalls.reader;
       picture_count = FileCalls.picture_count;
@@ -30,5 +31,6 @@ refusals =
       body_colour_frame_lem = PictureCalls.body_colour_frame_lem;
       triples = PictureCalls.triples;
       pack = PictureCalls.pack;
+      pack_refused = PictureCalls.pack_refused;
       write = PictureCalls.write;
     }

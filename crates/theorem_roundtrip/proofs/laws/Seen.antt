@@ -1,5 +1,5 @@
 -- The one picture of the written file: its properties, and that it is not refused.
-use Rattle.std.specs.Prelude.{ℕ, ◌+◌, ◌%◌, ◌≡◌, refl, true, false, List, [], ◌∷◌, length}
+use Rattle.std.specs.Prelude.{ℕ, ◌+◌, ◌%◌, ◌≡◌, refl, true, false, List, [], ◌∷◌, length, Ok}
 use Rattle.std.proofs.Common.{eq-eqb}
 use Rattle.iff_chunk.specs.Chunks.{word}
 use Rattle.ilbm_spec.specs.declared.BitmapHeader.{BitmapHeader}
@@ -72,10 +72,10 @@ sizes_right b palette frame shape e = rw (triples_right (cmap_place b) palette e
 module _
     (b : BitmapHeader) (palette frame shape : List ℕ) (room n : ℕ) (range : InRange b)
     (may : Writable b palette frame shape room n) where
-  fields_right : header_refusal (header_in (header_bytes b)) true ≡ 0
+  fields_right : header_refusal (header_in (header_bytes b)) true ≡ Ok tt
   unfolding header_refusal fields_refusal
   fields_right = rw (header_back b range) (simp (may.shallow, may.masking, may.compression, may.wide, may.high, may.deep))
 
-  pub no_refusal : picture_refusal (content_for b palette frame shape) ≡ 0
+  pub no_refusal : picture_refusal (content_for b palette frame shape) ≡ Ok tt
   unfolding picture_refusal
   no_refusal = rw (sizes_right b palette frame shape may.triples) fields_right

@@ -6,9 +6,8 @@ use mathlib.Core.List.{List, [], ◌∷◌, append-nil}
 use Rattle.std.proofs.lemmas.List.{length-replicate}
 use Rattle.iff_name.specs.Name.{well_formed, version_name, type_bytes, reserved_name, type_name, kind_of}
 use Rattle.iff_rules.specs.declared.Position.TheVariants.{Outermost, InForm}
-use Rattle.iff_tree.specs.declared.Verdict.TheVariants.{Accepted}
 use Rattle.iff_chunk.specs.Chunks.{Chunks, none, leaf, before, bytes, count}
-use Rattle.iff_tree.specs.Judge.{found, read_file, check_of}
+use Rattle.iff_tree.specs.Judge.{found, read_file, check_of, accepting}
 use Rattle.iff_grammar.specs.Grammar.{Members, height, ChunkFile}
 use Rattle.iff_grammar.proofs.Accept.{complete, ends}
 use Rattle.ilbm_spec.specs.declared.BitmapHeader.{BitmapHeader}
@@ -56,7 +55,7 @@ module _ (b : BitmapHeader) (palette frame shape : List ℕ) (short : length (pi
 
   pub file_answered :
       check_of (picture_file b palette frame shape)
-      ≡ Accepted (chunks_for palette) (length (picture_file b palette frame shape)) 0
+      ≡ accepting (chunks_for palette) (length (picture_file b palette frame shape)) 0
   unfolding picture_file
   file_answered = (ends (picture_file b palette frame shape) (picture_form b palette frame shape) [] chunk_file).1 ∙
-      ap (λ (k : ℕ). Accepted k (length (picture_file b palette frame shape)) 0) (form_count b palette frame shape)
+      ap (λ (k : ℕ). accepting k (length (picture_file b palette frame shape)) 0) (form_count b palette frame shape)

@@ -1,14 +1,14 @@
 -- What an answer that is no refusal tells of the header, the palette, the frame and the shape.
-use Rattle.std.specs.Prelude.{ℕ, ◌*◌, ◌%◌, ◌^◌, ◌≤◌, ◌≡◌, refl, Bool, true, false, not, List, [], ◌∷◌, ltb, eqb, length}
+use Rattle.std.specs.Prelude.{ℕ, ◌*◌, ◌%◌, ◌^◌, ◌≤◌, ◌≡◌, refl, Bool, true, false, not, List, [], ◌∷◌, ltb, eqb, length, Ok, Err}
 use borrow.Author.Tests.{ltb-true, ltb-false, eqb-true, not-false}
 use Rattle.std.proofs.Common.{arith}
 use Rattle.iff_name.specs.Name.{either, pick}
 use Rattle.ilbm_spec.specs.declared.BitmapHeader.{BitmapHeader}
-use Rattle.write_picture.specs.declared.WriteAnswer.TheVariants.{Written, Refused}
 use Rattle.write_body.specs.Body.{shape_width}
 use Rattle.write_form.specs.File.{picture_file}
 use Rattle.write_picture.specs.Write.{wrong_fields, colour_over, wrong_shape, write_of}
 use Rattle.theorem_roundtrip.proofs.laws.Planes.{Below}
+use Rattle.iff_refusal.specs.declared.Reason.TheVariants.{NoRoom, WrongFields, ColourTooGreat, ResultTooLong, WrongShape}
 
 -- not 33, 34, 45, 35 or 32, and the length that is told
 pub record Writable (b : BitmapHeader) (palette frame shape : List ℕ) (room n : ℕ) : Type 0 where
@@ -29,7 +29,7 @@ pub record Writable (b : BitmapHeader) (palette frame shape : List ℕ) (room n 
   pub size : length (picture_file b palette frame shape) ≡ n
 
 either_false : (a c : Bool) → either a c ≡ false → (a ≡ false) × (c ≡ false)
-either_false true c e = (e, let z : ◌≡◌ {A = ℕ} 0 1 = cc in absurd (omega arith))
+either_false true c e = absurd cc
 either_false false c e = (refl, e)
 
 below_all : (most : ℕ) (cs : List ℕ) → colour_over most cs ≡ false → Below most cs
@@ -75,7 +75,7 @@ module _ (b : BitmapHeader) (palette frame shape : List ℕ) (room n : ℕ) wher
         size = z;
       }
 
-  pub written_writable : write_of b palette frame shape room ≡ Written n → Writable b palette frame shape room n
+  pub written_writable : write_of b palette frame shape room ≡ Ok n → Writable b palette frame shape room n
   written_writable e =
       go (wrong_fields b (length palette) (length frame)) refl (colour_over (2 ^ b.planes) frame) refl (wrong_shape b shape) refl
       (ltb 16777216 size) refl (ltb room size) refl e
@@ -83,12 +83,12 @@ module _ (b : BitmapHeader) (palette frame shape : List ℕ) (room n : ℕ) wher
       go :
           (p : Bool) → wrong_fields b (length palette) (length frame) ≡ p → (q : Bool) → colour_over (2 ^ b.planes) frame ≡ q → (m : Bool) →
           wrong_shape b shape ≡ m → (r : Bool) → ltb 16777216 size ≡ r → (t : Bool) → ltb room size ≡ t →
-          pick p (Refused 33)
-          (pick q (Refused 34) (pick m (Refused 45) (pick r (Refused 35) (pick t (Refused 32) (Written size))))) ≡ Written n →
+          pick p (Err WrongFields)
+          (pick q (Err ColourTooGreat) (pick m (Err WrongShape) (pick r (Err ResultTooLong) (pick t (Err NoRoom) (Ok size))))) ≡ Ok n →
           Writable b palette frame shape room n
-      go true ep q eq m em r er t et d = let z : ◌≡◌ {A = ℕ} 0 1 = cc in absurd (omega arith)
-      go false ep true eq m em r er t et d = let z : ◌≡◌ {A = ℕ} 0 1 = cc in absurd (omega arith)
-      go false ep false eq true em r er t et d = let z : ◌≡◌ {A = ℕ} 0 1 = cc in absurd (omega arith)
-      go false ep false eq false em true er t et d = let z : ◌≡◌ {A = ℕ} 0 1 = cc in absurd (omega arith)
-      go false ep false eq false em false er true et d = let z : ◌≡◌ {A = ℕ} 0 1 = cc in absurd (omega arith)
-      go false ep false eq false em false er false et d = right_fields ep eq em (ltb-false 16777216 _ er) (ltb-false room _ et) (cc)
+      go true ep q eq m em r er t et d = absurd cc
+      go false ep true eq m em r er t et d = absurd cc
+      go false ep false eq true em r er t et d = absurd cc
+      go false ep false eq false em true er t et d = absurd cc
+      go false ep false eq false em false er true et d = absurd cc
+      go false ep false eq false em false er false et d = right_fields ep eq em (ltb-false 16777216 _ er) (ltb-false room _ et) cc

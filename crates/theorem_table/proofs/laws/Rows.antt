@@ -8,6 +8,7 @@ use Rattle.ilbm_spec.specs.Pictures.{Viewed, judged, pick_content}
 use Rattle.ilbm_spec.specs.Table.{PictureRow, picture_row, picture_rows, row_numbers, table_numbers}
 use Rattle.theorem_table.specs.ByTable.{row_in, row_at}
 use Rattle.theorem_table.specs.Lies.{ContentLies, ContentsLie}
+use Rattle.iff_refusal.specs.declared.Reason.TheVariants.{NoPicture}
 
 -- the first row, and those behind it
 first_row : (r : PictureRow) (rest : List ℕ) → row_at (row_numbers r ++ rest) 0 ≡ r
@@ -45,7 +46,7 @@ row_shows s P one rest (c ∷ cs) l (suc i) h =
     rw (append_assoc (row_numbers (picture_row c)) (table_numbers (picture_rows cs)) rest)
     (rw (later_row (picture_row c) (table_numbers (picture_rows cs) ++ rest) i) (row_shows s P one rest cs l.1 i (omega arith)))
 
-pub no_more : (cs : List Content) (i : ℕ) → length cs ≤ i → pick_content cs i ≡ refused 20 0
+pub no_more : (cs : List Content) (i : ℕ) → length cs ≤ i → pick_content cs i ≡ refused NoPicture 0
 unfolding pick_content
 no_more [] i h = refl
 no_more (c ∷ cs) zero h = absurd (omega arith)

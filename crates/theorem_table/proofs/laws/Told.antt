@@ -1,43 +1,53 @@
 -- A picture's row and the file give the picture again. Of a refused picture the row has the refusal; of any other the answer 0, its place,
 -- and of each property and the BODY where its data lies, which is in the file. There is at most one BODY, whose fields pass for themselves.
-use Rattle.std.specs.Prelude.{ℕ, ◌+◌, ◌-◌, ◌≤◌, ◌≡◌, Bool, List, [], ◌∷◌, eqb, length, replicate}
-use Rattle.std.proofs.Math.Path.{refl}
-use Rattle.std.proofs.Common.{ap, arith, eq-eqb, eqb-true}
-use Rattle.std.proofs.Math.Bool.{true, false}
+use Rattle.std.specs.Prelude.{ℕ, ◌+◌, ◌-◌, ◌≤◌, ◌≡◌, refl, true, false, List, [], ◌∷◌, eqb, length, replicate, Result, Ok, Err, Some, None}
+use Rattle.std.proofs.Common.{sym, ap, ◌∙◌, arith, eq-eqb}
 use Rattle.iff_name.specs.Name.{pick}
 use Rattle.iff_chunk.specs.Chunks.{word}
 use Rattle.iff_tree.specs.Judge.{found, refused}
 use Rattle.ilbm_spec.specs.declared.BitmapHeader.{BitmapHeader}
-use Rattle.ilbm_spec.specs.declared.PictureAnswer.TheVariants.{Shown, Refused}
 use Rattle.ilbm_spec.specs.Contents.{Located, located, Property, own, shared, absent, Content}
-use Rattle.ilbm_spec.specs.Pictures.{u16, header_in, hot_spot_in, destination_in, data_of, origin_of, picture_refusal, Viewed, judged, picture_from}
+use Rattle.ilbm_spec.specs.Pictures.{u16, header_in, hot_spot_in, destination_in, data_of, origin_of, picture_refusal, Viewed, passing, judged, picture_from}
 use Rattle.ilbm_spec.specs.Pictures.{picture_answer, palette_of_property}
-use Rattle.ilbm_spec.specs.Palette.{Answer, answer_in, extent_in}
+use Rattle.ilbm_spec.specs.Palette.{Palette, answer_in, extent_in}
 use Rattle.ilbm_spec.specs.Rows.{Read, line_in_body, frame_in_body, on_body, ask_body, line_read, frame_read}
 use Rattle.ilbm_spec.specs.Shapes.{shape_line_in_body, shape_frame_in_body, shape_line_read, shape_frame_read}
 use Rattle.ilbm_spec.specs.Colours.{colour_line_in_body, colour_frame_in_body, colour_line_read, colour_frame_read}
 use Rattle.ilbm_spec.specs.Triples.{triples_by, triples_in}
-use Rattle.ilbm_spec.specs.Table.{property_row, body_row, PictureRow, row_with, without_parts, picture_row}
+use Rattle.ilbm_spec.specs.Table.{property_row, body_row, PictureRow, row_with, without_parts, shown_parts, picture_row}
 use Rattle.ilbm_spec.proofs.laws.Pictures.{header_size, one_body, frame_fields, line_fields}
 use Rattle.theorem_table.specs.ByTable.{data_by, body_by, header_by, mode_by, colours_by, unless_refused, origin_by, picture_by}
 use Rattle.theorem_table.specs.ByTable.{properties_by, palette_by, extent_by, palette_triples_by, rows_by, scan_line_by, frame_by, shape_line_by}
 use Rattle.theorem_table.specs.ByTable.{shape_frame_by, colour_line_by, colour_frame_by, chunk_by, property_by, bodies_by, content_for, view_by}
 use Rattle.theorem_table.specs.ByTable.{Part, Parts}
 use Rattle.theorem_table.specs.Lies.{Lies, PropertyLies, BodiesLie, ContentLies}
+use Rattle.iff_refusal.specs.declared.Reason.TheVariants.{NoBody}
+use Rattle.iff_refusal.specs.declared.Reason.{Reason}
+use Rattle.iff_refusal.specs.Numbers.{number_of, number_unless, refusal, refusing, refusal_in, number_in}
+use Rattle.iff_refusal.specs.laws.Reasons.{found_again, numbered}
 
 -- the row of a picture that is refused, or is not
 by_answer :
-    {A : Type 0} (c : Content) (shown : PictureRow → A) (refusal : ℕ → ℕ → A) (f : Viewed → A) →
-    ((k p : ℕ) → f (refused k p) ≡ refusal k p) → (picture_refusal c ≡ 0 → shown (row_with 0 c) ≡ f (found c)) →
-    unless_refused (picture_row c) (shown (picture_row c)) refusal ≡ f (judged c)
+    {A : Type 0} (c : Content) (shown : PictureRow → A) (refused_by : Reason → ℕ → A) (f : Viewed → A) →
+    ((k : Reason) → f (refused k 0) ≡ refused_by k 0) → (picture_refusal c ≡ Ok tt → shown (row_with 0 c) ≡ f (found c)) →
+    unless_refused (picture_row c) (shown (picture_row c)) refused_by ≡ f (judged c)
 unfolding picture_row
-by_answer c shown refusal f told-refused told = go (picture_refusal c) (eqb (picture_refusal c) 0) refl told
+by_answer c shown refused_by f told-refused told = go (picture_refusal c) told
   where
     go :
-        (k : ℕ) (b : Bool) → eqb k 0 ≡ b → (k ≡ 0 → shown (row_with 0 c) ≡ f (found c)) →
-        pick b (shown (row_with k (pick b c (without_parts c)))) (refusal k 0) ≡ f (pick b (found c) (refused k 0))
-    go k true e i = let z = eqb-true k 0 e in rw z (i z)
-    go k false e i = rw (told-refused k 0)
+        (r : Result (Unit {0}) Reason) → (r ≡ Ok tt → shown (row_with 0 c) ≡ f (found c)) →
+        let row = row_with (number_unless r) (shown_parts r c) in unless_refused row (shown row) refused_by ≡ f (passing r (found c))
+    go (Ok u) i = i refl
+    go (Err k) i = rw (numbered k, found_again k, told-refused k)
+
+-- the number in a row is that of the refusal, 0 for none
+pub answer_told : (c : Content) → (picture_row c).answer ≡ number_in (refusal_in (picture_answer (judged c)))
+unfolding picture_row
+answer_told c = go (picture_refusal c)
+  where
+    go : (r : Result (Unit {0}) Reason) → number_unless r ≡ number_in (refusal_in (picture_answer (passing r (found c))))
+    go (Ok u) = refl
+    go (Err k) = refl
 
 module _ (s : List ℕ) where
   chunk_told : (x : Located) → Lies s x → chunk_by s (x.place + 8) (x.place + 8 + length x.content) ≡ x
@@ -76,7 +86,7 @@ module _ (s : List ℕ) where
   rows_told :
       {A : Type 0} (bs : List Located) → BodiesLie s bs → (rows in_body : List ℕ → Read A) →
       ((b : Located) (others : List Located) → bs ≡ b ∷ others → in_body b.content ≡ rows b.content) → (r : PictureRow) →
-      r.body ≡ body_row bs → pick (eqb r.body.there 0) (refused 25 0) (in_body (body_by s r)) ≡ on_body bs rows
+      r.body ≡ body_row bs → pick (eqb r.body.there 0) (refused NoBody 0) (in_body (body_by s r)) ≡ on_body bs rows
   rows_told [] l rows in_body e r i = rw i
   rows_told (x ∷ xs) l rows in_body e r i = rw (i, l.0.part) (e x xs refl)
 
@@ -107,18 +117,24 @@ module _ (s : List ℕ) where
   module _ (c : Content) (l : ContentLies s c) where
     pub parts_told : Parts s (picture_row c)
     unfolding picture_row
-    parts_told = parts_with (picture_refusal c) _ (go (eqb (picture_refusal c) 0))
+    parts_told = parts_with (number_unless (picture_refusal c)) _ (go (picture_refusal c))
       where
-        go : (b : Bool) → ContentLies s (pick b c (without_parts c))
-        go true = l
-        go false = nothing_told c
+        go : (r : Result (Unit {0}) Reason) → ContentLies s (shown_parts r c)
+        go (Ok u) = l
+        go (Err k) = nothing_told c
 
     pub header_told : (picture_row c).answer ≡ 0 → length (data_by s (picture_row c).bmhd) ≡ 20
     unfolding picture_row
-    header_told e = rw (eq-eqb (picture_refusal c) 0 e, data_told c.bmhd l.bmhd) (header_size c e)
+    header_told = go (picture_refusal c) (header_size c)
+      where
+        go :
+            (r : Result (Unit {0}) Reason) → (r ≡ Ok tt → length (data_of c.bmhd) ≡ 20) →
+            let row = row_with (number_unless r) (shown_parts r c) in row.answer ≡ 0 → length (data_by s row.bmhd) ≡ 20
+        go (Ok u) h e = rw (data_told c.bmhd l.bmhd) (h refl)
+        go (Err k) h e = absurd (let z : true ≡ false = sym (eq-eqb (number_of k) 0 e) ∙ numbered k in cc)
 
     pub view_told : view_by s (picture_row c) ≡ judged c
-    view_told = by_answer c (λ r. found (content_for s r)) refused (λ v. v) (λ k p. refl) (λ e j. found (record {
+    view_told = by_answer c (λ r. found (content_for s r)) refused (λ v. v) (λ k. refl) (λ e j. found (record {
       place = c.place;
       bmhd = property_told c.bmhd l.bmhd j;
       cmap = property_told c.cmap l.cmap j;
@@ -131,7 +147,7 @@ module _ (s : List ℕ) where
 
     pub properties_told : properties_by s (picture_row c) ≡ picture_answer (judged c)
     unfolding picture_from
-    properties_told = by_answer c (λ r. Shown (picture_by s r)) Refused picture_answer (λ k p. refl) (λ e j. Shown (record {
+    properties_told = by_answer c (λ r. Ok (picture_by s r)) refusing picture_answer (λ k. refl) (λ e j. Ok (record {
       header = header_in (data_told c.bmhd l.bmhd j);
       header_from = origin_told c.bmhd j;
       palette_from = origin_told c.cmap j;
@@ -146,20 +162,18 @@ module _ (s : List ℕ) where
     }))
 
     pub palette_told : (default : List ℕ) → palette_by s (picture_row c) default ≡ answer_in (judged c) default
-    palette_told default = by_answer {A = Answer} c (λ r. record {
-      number = 0;
-      place = 0;
-      colours = colours_by s r default;
-    }) (λ k p. record { number = k; place = p; colours = [] }) (λ v. answer_in v default) (λ k p. refl)
-        (λ e j. record { number = 0; place = 0; colours = colours_told c.cmap l.cmap default j })
+    palette_told default =
+        by_answer {A = Palette} c (λ r. record { refusal = None; colours = colours_by s r default })
+        (λ k p. record { refusal = Some (refusal k p); colours = [] }) (λ v. answer_in v default) (λ k. refl)
+        (λ e j. record { refusal = None; colours = colours_told c.cmap l.cmap default j })
 
     pub extent_told : extent_by (picture_row c) ≡ extent_in (judged c)
     unfolding picture_row
-    extent_told = go (picture_refusal c) (eqb (picture_refusal c) 0)
+    extent_told = go (picture_refusal c)
       where
-        go : (k : ℕ) (b : Bool) → extent_by (row_with k (pick b c (without_parts c))) ≡ extent_in (pick b (found c) (refused k 0))
-        go k true = refl
-        go k false = refl
+        go : (r : Result (Unit {0}) Reason) → extent_by (row_with (number_unless r) (shown_parts r c)) ≡ extent_in (passing r (found c))
+        go (Ok u) = refl
+        go (Err k) = refl
 
     header : data_by s (property_row c.bmhd) ≡ data_of c.bmhd
     header = data_told c.bmhd l.bmhd
@@ -170,19 +184,19 @@ module _ (s : List ℕ) where
     pub triples_told : (default : List ℕ) → palette_triples_by s (picture_row c) default ≡ triples_in (judged c) default
     triples_told default =
         by_answer c
-        (λ r. record { number = 0; place = 0; triples = triples_by (mode_by s r) (header_by s r).planes (colours_by s r default) })
-        (λ k p. record { number = k; place = p; triples = replicate 64 (0 ∷ 0 ∷ 0 ∷ []) }) (λ v. triples_in v default) (λ k p. refl)
+        (λ r. record { refusal = None; triples = triples_by (mode_by s r) (header_by s r).planes (colours_by s r default) })
+        (λ k p. record { refusal = Some (refusal k p); triples = replicate 64 (0 ∷ 0 ∷ 0 ∷ []) }) (λ v. triples_in v default) (λ k. refl)
         (λ e. rw (header, mode, colours_told c.cmap l.cmap default))
 
     -- rows by what the row tells and the BODY, where the fields of a picture that has one pass
     asked-told :
         {A : Type 0} (rows : Content → List ℕ → Read A) (in_body : PictureRow → List ℕ → Read A) →
-        (picture_refusal c ≡ 0 → (x : Located) (xs : List Located) → c.bodies ≡ x ∷ xs →
+        (picture_refusal c ≡ Ok tt → (x : Located) (xs : List Located) → c.bodies ≡ x ∷ xs →
         in_body (row_with 0 c) x.content ≡ rows c x.content) →
         let r = picture_row c in rows_by r (in_body r (body_by s r)) ≡ ask_body (judged c) rows
     asked-told rows in_body pass =
-        by_answer c (λ r. pick (eqb r.body.there 0) (refused 25 0) (in_body r (body_by s r))) refused (λ v. ask_body v rows)
-        (λ k p. refl) (λ e. rows_told c.bodies l.bodies (rows c) (in_body (row_with 0 c)) (pass e) (row_with 0 c) refl)
+        by_answer c (λ r. pick (eqb r.body.there 0) (refused NoBody 0) (in_body r (body_by s r))) refused (λ v. ask_body v rows)
+        (λ k. refl) (λ e. rows_told c.bodies l.bodies (rows c) (in_body (row_with 0 c)) (pass e) (row_with 0 c) refl)
 
     pub line_told_lem : (start room : ℕ) → scan_line_by s (picture_row c) start room ≡ line_read (judged c) start room
     line_told_lem start room =

@@ -1,5 +1,4 @@
--- The loop's invariant: the rows passed stand at their place, one behind the other. The measure is the planes left.
-use Prim.Native.Nat.{◌-◌}
+-- The loop's invariant: the rows passed stand at their place, one behind the other.
 use native.Mathlib.Omega.{arith}
 use Rattle.write_plane_row.proofs.Buffers.{putting_room, putting_more, putting_all}
 use Rattle.write_body.proofs.Lines.{rows_step, rows_end}

@@ -1,5 +1,4 @@
--- The loop's invariant: the rows passed stand at their place, one behind the other. The measure is the planes left.
-use Prim.Native.Nat.{◌-◌}
+-- The loop's invariant: the rows passed stand at their place, one behind the other.
 use Rattle.write_body.specs.Body.{line_rows}
 use Rattle.write_plane_row.proofs.Buffers.{Putting}
 use Rattle.write_body.proofs.Lines.{rows_from}
@@ -7,6 +6,3 @@ use Rattle.write_body.proofs.put_line.Given as goal
 
 abbrev pub invariant-loop-k : goal.invariant-loop-k
 invariant-loop-k l = Putting (line_rows l.compression l.n l.line 1 l.planes) l.initial.out l.at l.out l.q (rows_from l.compression l.n l.line l.planes l.k)
-
-abbrev pub decreases-loop-k : goal.decreases-loop-k
-decreases-loop-k l = l.planes - l.k

@@ -1,15 +1,13 @@
--- The loop's invariant: the rest of the frame has a colour number that is too high exactly if the frame has. The measure is the bytes left.
-use Prim.Native.Nat.{◌-◌}
-use Rattle.write_picture.proofs.Refusals.{over_here, passed_more, passed_all}
+-- Some number of the frame is too high.
+use Rattle.std.proofs.Common.{◌∙◌, leb, rules, tests}
+use Rattle.std.proofs.lemmas.Iterator.{YieldsList-from_slice}
+use Rattle.std.proofs.lemmas.Iterator.Search.{any_from_yields_List}
+use Rattle.write_picture.proofs.Refusals.{over_any}
 use Rattle.write_picture.proofs.colour_over.Goals as goal
 
-pub returns-then-most-c : goal.returns-then-most-c
-returns-then-most-c c =
-    over_here _ _ _ _ c.loop-i.invariant c.loop-i-test.true c.wide-c.ensures c.if-most-c.true
-
-pub loop-i-preserved : goal.loop-i-preserved
-loop-i-preserved c =
-    passed_more _ _ _ _ c.loop-i.invariant c.loop-i-test.true c.wide-c.ensures c.if-most-c.false
-
 pub returns : goal.returns
-returns c = passed_all _ _ _ c.loop-i.invariant c.loop-i-test.false
+returns c =
+    let most = c.args.most in
+    let frame = c.args.frame.now in
+    any_from_yields_List (leb most) _ _ _ c.any.ensures.ran (YieldsList-from_slice frame cc) (λ x b q k. search (rules, tests))
+    ∙ over_any most frame

@@ -1,10 +1,13 @@
 -- Each way out has its law, from what the tests before it showed.
 use mathlib.Core.Path.{sym}
-use Rattle.write_picture.proofs.Answers.{fields_right, shape_right, room_0}
+use native.Mathlib.Omega.{arith}
+use Rattle.write_picture.proofs.Answers.{fields_right, colours_fit, shape_right, room_0}
 use Rattle.write_picture.proofs.write_picture.Goals as goal
 
-pub power-requires : goal.power-requires
-power-requires c = (fields_right _ _ _ _ c.wrong_fields.ensures c.if-wrong_fields.false).0
+pub pow-requires : goal.pow-requires
+pow-requires c =
+    let few = (fields_right _ _ _ _ c.wrong_fields.ensures c.if-wrong_fields.false).0 in
+    colours_fit c.from.result (omega arith)
 
 pub file_sizes-sizes-requires : goal.file_sizes-sizes-requires
 file_sizes-sizes-requires c =

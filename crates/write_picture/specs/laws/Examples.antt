@@ -7,8 +7,8 @@ use Rattle.ilbm_spec.specs.declared.BitmapHeader.{BitmapHeader}
 use Rattle.write_plane_row.specs.Planes.{plane_byte, plane_row}
 use Rattle.write_body.specs.Body.{line_rows, body_lines, body_bytes}
 use Rattle.write_form.specs.File.{header_bytes, picture_file}
-use Rattle.write_picture.specs.declared.WriteAnswer.TheVariants.{Written}
 use Rattle.write_picture.specs.Write.{wrong_fields, colour_over, wrong_shape, write_of, write_number}
+use Rattle.std.specs.Prelude.{Ok}
 
 -- three pixels wide and one high, two planes, so masked and compressed
 abbrev small : ℕ → ℕ → BitmapHeader
@@ -48,7 +48,7 @@ examples = (refl, refl, refl, refl)
 -- one of 3 bytes for masking 0; a colour 4 besides is 34.
 pub shapes :
     (body_bytes (small 1 0) colours (1 ∷ 0 ∷ 1 ∷ []) ≡ 0xA0 ∷ 0 ∷ 0x60 ∷ 0 ∷ 0xA0 ∷ 0 ∷ [])
-    × (write_of (small 1 0) [] colours (1 ∷ 0 ∷ 1 ∷ []) 54 ≡ Written 54)
+    × (write_of (small 1 0) [] colours (1 ∷ 0 ∷ 1 ∷ []) 54 ≡ Ok 54)
     × (write_number (write_of (small 1 0) [] colours (1 ∷ 0 ∷ []) 60) ≡ 45)
     × (write_number (write_of (small 1 0) [] colours (1 ∷ 0 ∷ 2 ∷ []) 60) ≡ 45)
     × (write_number (write_of (small 0 0) [] colours (1 ∷ 0 ∷ 1 ∷ []) 60) ≡ 45)

@@ -1,5 +1,4 @@
--- The loop's invariant: the first j bytes of the row stand at their place. The measure is the bytes left.
-use Prim.Native.Nat.{◌-◌}
+-- The loop's invariant: the first j bytes of the row stand at their place.
 use borrow.Author.Rules.{rules}
 use Rattle.write_plane_row.proofs.Planes.{row_laws}
 use Rattle.write_plane_row.proofs.plane_row.Goals as goal

@@ -1,8 +1,0 @@
--- The loop's invariant: the first k bytes are copied, and dst is as long as it was; the measure is what is left of count.
-use Prim.Native.Nat.{◌-◌}
-use borrow.Author.Rules.{rules}
-use Rattle.byterun_copy.proofs.Runs.{laws}
-use Rattle.byterun_copy.proofs.copy_eights.Goals as goal
-
-pub loop-k-preserved : goal.loop-k-preserved
-loop-k-preserved c = search (laws, rules)

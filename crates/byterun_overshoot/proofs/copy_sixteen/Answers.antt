@@ -1,7 +1,0 @@
--- Eight bytes behind eight: a paste behind a paste.
-use Rattle.byterun_copy.proofs.Runs.{rest_copied}
-use borrow.Author.Rules.{rules}
-use Rattle.byterun_overshoot.proofs.copy_sixteen.Goals as goal
-
-pub returns : goal.returns
-returns c = search (rest_copied, rules)
