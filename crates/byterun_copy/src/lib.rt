@@ -29,22 +29,49 @@ pub fn put_eight(dst: &mut [u8], at: usize, a: u8, b: u8, c: u8, d: u8, e: u8, f
     dst[at + 7] = h;
 }
 
-// Copies eight bytes of src, from `from` on, into dst, from `at` on.
+// Copies eight bytes of src, from `from` on, into dst, from `at` on. All are read before one is written: so it is one load and one store.
 pub fn copy_eight(src: &[u8], from: usize, dst: &mut [u8], at: usize)
     requires from_in_bounds { from + 8 ≤ length src.now }
     requires at_in_bounds { at + 8 ≤ length dst.old }
     ensures { dst.new ≡ paste dst.old at (drop from src.now) 8 }
 {
-    copy_run(src, from, dst, at, 8);
+    let mut bytes = [0; 8];
+    bytes.copy_from_slice(&src[from..from + 8]);
+    dst[at..at + 8].copy_from_slice(&bytes);
 }
 
-// Copies count bytes of src, from `from` on, into dst, from `at` on.
+// Copies the bytes of a run by eights, and tells how many it has copied.
+fn copy_eights(src: &[u8], from: usize, dst: &mut [u8], at: usize, count: usize) -> usize
+    requires count_in_bounds { from + count ≤ length src.now }
+    requires count_in_bounds_2 { at + count ≤ length dst.old }
+    ensures { (result ≤ count) × (dst.new ≡ paste dst.old at (drop from src.now) result) }
+{
+    let whole = count - count % 8;
+    for k in (0..whole).step_by(8) {
+        copy_eight(src, from + k, dst, at + k);
+    }
+    whole
+}
+
+// Copies the bytes of a run one by one.
+fn copy_ones(src: &[u8], from: usize, dst: &mut [u8], at: usize, count: usize)
+    requires count_in_bounds { from + count ≤ length src.now }
+    requires count_in_bounds_2 { at + count ≤ length dst.old }
+    ensures { dst.new ≡ paste dst.old at (drop from src.now) count }
+{
+    for k in 0..count {
+        dst[at + k] = src[from + k];
+    }
+}
+
+// Copies count bytes of src, from `from` on, into dst, from `at` on. (std's `copy_from_slice` would call the C library's `memmove`.)
 pub fn copy_run(src: &[u8], from: usize, dst: &mut [u8], at: usize, count: usize)
     requires count_in_bounds { from + count ≤ length src.now }
     requires count_in_bounds_2 { at + count ≤ length dst.old }
     ensures { dst.new ≡ paste dst.old at (drop from src.now) count }
 {
-    dst[at..at + count].copy_from_slice(&src[from..from + count]);
+    let k = copy_eights(src, from, dst, at, count);
+    copy_ones(src, from + k, dst, at + k, count - k);
 }
 
 // Writes times bytes b into dst, from `at` on.

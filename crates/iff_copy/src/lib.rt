@@ -9,12 +9,14 @@ ghost use Rattle.iff_copy.specs.Pads.{pad_zeroed};
 
 use iff_refusal::{Reason, Refusal};
 
-// Copies the first n bytes.
+// Copies the first n bytes. (std's `copy_from_slice` would call the C library's `memmove`.)
 fn copy_bytes(s: &[u8], n: usize, out: &mut [u8])
     requires { (n ≤ length s.now) × (n ≤ length out.old) }
     ensures { out.new ≡ take n s.now ++ drop n out.old }
 {
-    out[..n].copy_from_slice(&s[..n]);
+    for i in 0..n {
+        out[i] = s[i];
+    }
 }
 
 // Makes the pad of the chunk at p zero, if it has one; gives the place of the next chunk in file order.
