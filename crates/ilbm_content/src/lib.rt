@@ -65,9 +65,9 @@ fn property(s: &[u8], own: Option<usize>, other: Option<Shared>) -> Held
 }
 
 // The content of the FORM at a place, whose members end at e.
-pub fn content_at(s: &[u8], form: usize, e: usize, scope: Scope) -> Contents
-    requires { (Row s.now (form + 12) e) × (Scoped s.now scope) }
-    ensures { ContentIs s.now form e scope result }
+pub fn content_at(s: &[u8], form: usize, e: usize, scope: &Scope) -> Contents
+    requires { (Row s.now (form + 12) e) × (Scoped s.now scope.now) }
+    ensures { ContentIs s.now form e scope.now result }
 {
     let g = gather(s, form + 12, e, false);
     Contents {

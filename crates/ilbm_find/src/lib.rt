@@ -15,9 +15,9 @@ use ilbm_spec::BitmapHeader;
 use std::ops::ControlFlow;
 
 // The picture in the FORM at a place.
-pub fn view_form(s: &[u8], form: usize, scope: Scope) -> Result<(Contents, BitmapHeader), Refusal>
-    requires { FormIn s.now form scope }
-    ensures { FormView s.now form scope result }
+pub fn view_form(s: &[u8], form: usize, scope: &Scope) -> Result<(Contents, BitmapHeader), Refusal>
+    requires { FormIn s.now form scope.now }
+    ensures { FormView s.now form scope.now result }
 {
     let end = form + 8 + size_at(s, form + 4);
     let c = content_at(s, form, end, scope);
@@ -30,8 +30,8 @@ fn view_sound(s: &[u8], end: usize, i: usize) -> Result<(Contents, BitmapHeader)
     requires { Sound s.now end }
     ensures { ViewIs s.now result (view_of s.now i) }
 {
-    match seek(s, 0, end, none_shared(), i) {
-        ControlFlow::Break((form, scope)) => view_form(s, form, scope),
+    match seek(s, 0, end, &none_shared(), i) {
+        ControlFlow::Break((form, scope)) => view_form(s, form, &scope),
         ControlFlow::Continue(_) => Err(Reason::NoPicture.at(0)),
     }
 }

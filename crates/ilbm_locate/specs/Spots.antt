@@ -19,6 +19,11 @@ Opens s q G = (R : List ℕ) × Holds s (q + 12) (q + 8 + word s (q + 4)) G R
 abbrev pub Spot : Type 0
 Spot = ControlFlow (ℕ × Scope) ℕ
 
+-- the FORM's place by itself, beside what is shared there
+abbrev pub spot_of : ControlFlow ℕ ℕ → Scope → Spot
+spot_of (Break f) c = Break (f, c)
+spot_of (Continue m) c = Continue m
+
 -- The picture of number k among these is the FORM at a place in a scope; or there are too few, and so many are left to pass.
 abbrev pub Spotted : List ℕ → ℕ → List Content → Spot → Type 0
 Spotted s k cs (Break (f, c)) =

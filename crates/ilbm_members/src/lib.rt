@@ -78,16 +78,36 @@ fn taken(n: Name, q: usize, g: Gathered, whole: bool) -> Gathered
     let first = g.bodies == 0;
     let open = whole | first;
     let body = n == BODY;
-    Gathered {
-        bmhd: newer(open & (n == BMHD), q, g.bmhd),
-        cmap: newer(open & (n == CMAP), q, g.cmap),
-        grab: newer(open & (n == GRAB), q, g.grab),
-        dest: newer(open & (n == DEST), q, g.dest),
-        sprt: newer(open & (n == SPRT), q, g.sprt),
-        camg: newer(open & (n == CAMG), q, g.camg),
+    let mut next = Gathered {
         body: newer(first & body, q, g.body),
         bodies: g.bodies + one_if(body),
+        ..g
+    };
+    if n == BMHD {
+        next.bmhd = newer(open, q, g.bmhd);
+        return next;
     }
+    if n == CMAP {
+        next.cmap = newer(open, q, g.cmap);
+        return next;
+    }
+    if n == GRAB {
+        next.grab = newer(open, q, g.grab);
+        return next;
+    }
+    if n == DEST {
+        next.dest = newer(open, q, g.dest);
+        return next;
+    }
+    if n == SPRT {
+        next.sprt = newer(open, q, g.sprt);
+        return next;
+    }
+    if n == CAMG {
+        next.camg = newer(open, q, g.camg);
+        return next;
+    }
+    next
 }
 
 // What the members from p to e give, in one pass: the properties of a FORM end at its first BODY, those of a PROP don't.

@@ -11,6 +11,7 @@ ghost use Rattle.ilbm_find.specs.Seen.{FormIn};
 ghost use Rattle.ilbm_table.specs.Filling.{Keeps, FillsForm, FillsOwn, FillsInside, FillsChunk, FillsMembers, Answers};
 
 use iff_chunk::{name_at, size_at};
+use iff_name::Name;
 use iff_refusal::{Reason, Refusal};
 use iff_rules::is_section;
 use iff_tree::check;
@@ -21,9 +22,9 @@ use ilbm_names::is_picture;
 use ilbm_table_row::put_picture;
 
 // The row of the FORM at q, if there is room for it. Returns where the next row goes.
-fn put_form(s: &[u8], q: usize, scope: Scope, table: &mut [usize], at: usize) -> usize
-    requires { (FormIn s.now q scope) × (at ≤ length table.old) }
-    ensures { (FillsForm s.now q scope table.old at table.new result)
+fn put_form(s: &[u8], q: usize, scope: &Scope, table: &mut [usize], at: usize) -> usize
+    requires { (FormIn s.now q scope.now) × (at ≤ length table.old) }
+    ensures { (FillsForm s.now q scope.now table.old at table.new result)
         × (Keeps table.old table.new result) }
 {
     if table.len() - at < 30 {
@@ -34,9 +35,9 @@ fn put_form(s: &[u8], q: usize, scope: Scope, table: &mut [usize], at: usize) ->
 }
 
 // The row of the group at q, if it is a picture.
-fn put_own(s: &[u8], q: usize, e: usize, scope: Scope, table: &mut [usize], at: usize) -> usize
-    requires { (GroupAt s.now q e) × (Scoped s.now scope) × (at ≤ length table.old) }
-    ensures { (FillsOwn s.now q e scope table.old at table.new result)
+fn put_own(s: &[u8], q: usize, e: usize, scope: &Scope, table: &mut [usize], at: usize) -> usize
+    requires { (GroupAt s.now q e) × (Scoped s.now scope.now) × (at ≤ length table.old) }
+    ensures { (FillsOwn s.now q e scope.now table.old at table.new result)
         × (Keeps table.old table.new result) }
 {
     if is_picture(name_at(s, q), name_at(s, q + 8)) {
@@ -47,21 +48,25 @@ fn put_own(s: &[u8], q: usize, e: usize, scope: Scope, table: &mut [usize], at: 
 
 // The rows of the pictures inside the group at q.
 #[cycle(enter_fill_open_visit)]
-fn enter(s: &[u8], q: usize, e: usize, scope: Scope, table: &mut [usize], at: usize) -> usize
-    requires { (GroupAt s.now q e) × (Scoped s.now scope) × (at ≤ length table.old) }
-    ensures { (FillsInside s.now q e scope table.old at table.new result)
+fn enter(s: &[u8], q: usize, e: usize, scope: &Scope, table: &mut [usize], at: usize) -> usize
+    requires { (GroupAt s.now q e) × (Scoped s.now scope.now) × (at ≤ length table.old) }
+    ensures { (FillsInside s.now q e scope.now table.old at table.new result)
         × (Keeps table.old table.new result) }
 {
     let end = q + 8 + size_at(s, q + 4);
-    let inner = inner_scope(s, q, e, scope);
-    fill(s, q + 12, end, inner, table, at)
+    let name = name_at(s, q);
+    if name.code == Name::LIST.code {
+        let inner = inner_scope(s, q, e, scope);
+        return fill(s, q + 12, end, &inner, table, at);
+    }
+    fill(s, q + 12, end, scope, table, at)
 }
 
 // The rows of the group at q and of the pictures inside it.
 #[cycle(enter_fill_open_visit)]
-fn open(s: &[u8], q: usize, e: usize, scope: Scope, table: &mut [usize], at: usize) -> usize
-    requires { (GroupAt s.now q e) × (Scoped s.now scope) × (at ≤ length table.old) }
-    ensures { (FillsChunk s.now q e scope table.old at table.new result)
+fn open(s: &[u8], q: usize, e: usize, scope: &Scope, table: &mut [usize], at: usize) -> usize
+    requires { (GroupAt s.now q e) × (Scoped s.now scope.now) × (at ≤ length table.old) }
+    ensures { (FillsChunk s.now q e scope.now table.old at table.new result)
         × (Keeps table.old table.new result) }
 {
     let next = put_own(s, q, e, scope, table, at);
@@ -70,9 +75,9 @@ fn open(s: &[u8], q: usize, e: usize, scope: Scope, table: &mut [usize], at: usi
 
 // The same for any member: leaves and PROPs hold no pictures.
 #[cycle(enter_fill_open_visit)]
-fn visit(s: &[u8], q: usize, e: usize, scope: Scope, table: &mut [usize], at: usize) -> usize
-    requires { (Row s.now q e) × (q < e) × (Scoped s.now scope) × (at ≤ length table.old) }
-    ensures { (FillsChunk s.now q e scope table.old at table.new result)
+fn visit(s: &[u8], q: usize, e: usize, scope: &Scope, table: &mut [usize], at: usize) -> usize
+    requires { (Row s.now q e) × (q < e) × (Scoped s.now scope.now) × (at ≤ length table.old) }
+    ensures { (FillsChunk s.now q e scope.now table.old at table.new result)
         × (Keeps table.old table.new result) }
 {
     let n = name_at(s, q);
@@ -84,9 +89,9 @@ fn visit(s: &[u8], q: usize, e: usize, scope: Scope, table: &mut [usize], at: us
 
 // The rows of all pictures from p to e.
 #[cycle(enter_fill_open_visit)]
-fn fill(s: &[u8], p: usize, e: usize, scope: Scope, table: &mut [usize], at: usize) -> usize
-    requires { (Row s.now p e) × (Scoped s.now scope) × (at ≤ length table.old) }
-    ensures { (FillsMembers s.now p e scope table.old at table.new result)
+fn fill(s: &[u8], p: usize, e: usize, scope: &Scope, table: &mut [usize], at: usize) -> usize
+    requires { (Row s.now p e) × (Scoped s.now scope.now) × (at ≤ length table.old) }
+    ensures { (FillsMembers s.now p e scope.now table.old at table.new result)
         × (Keeps table.old table.new result) }
 {
     let mut q = p;
@@ -107,7 +112,7 @@ fn fill_sound(s: &[u8], end: usize, table: &mut [usize]) -> Result<usize, Refusa
     if table.len() / 30 < pictures {
         return Err(Reason::TableTooShort.at(0));
     }
-    fill(s, 0, end, none_shared(), table, 0);
+    fill(s, 0, end, &none_shared(), table, 0);
     Ok(pictures)
 }
 

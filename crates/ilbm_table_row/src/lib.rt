@@ -111,9 +111,9 @@ fn put_row(table: &mut [usize], at: usize, number: usize, form: usize, c: Conten
 }
 
 // The row of the picture in the FORM at a place; of a refused one its answer, place and type.
-pub fn put_picture(s: &[u8], form: usize, scope: Scope, table: &mut [usize], at: usize)
-    requires { (FormIn s.now form scope) × (at + 30 ≤ length table.old) }
-    ensures { PutsPicture s.now form scope at table.old table.new }
+pub fn put_picture(s: &[u8], form: usize, scope: &Scope, table: &mut [usize], at: usize)
+    requires { (FormIn s.now form scope.now) × (at + 30 ≤ length table.old) }
+    ensures { PutsPicture s.now form scope.now at table.old table.new }
 {
     match view_form(s, form, scope) {
         Ok((c, _)) => put_row(table, at, 0, form, c),

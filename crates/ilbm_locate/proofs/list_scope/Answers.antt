@@ -14,4 +14,4 @@ pub loop-q-preserved : goal.loop-q-preserved
 loop-q-preserved c = search (sharing_laws, rules)
 
 pub returns : goal.returns
-returns c = sharing_end _ _ _ _ _ (omega arith) c.loop-q.invariant.3
+returns c = rw c.same_scope.ensures (sharing_end _ _ _ _ _ (omega arith) c.loop-q.invariant.3)
