@@ -37,7 +37,8 @@ fn row_len(compression: u8, line: &[u8], k: usize, n: usize) -> usize
     packed_row_len(line, k, n, &mut row[0..n])
 }
 
-// The length of a scan line as it is written.
+// The length of a scan line as it is written. (A call of its own, so that its row of 8 KiB is off the stack when a line is put.)
+#[inline(never)]
 fn line_len(compression: u8, n: usize, line: &[u8], planes: usize) -> usize
     requires { (n ≤ 8192) × (planes ≤ 8) }
     ensures is { result ≡ length (line_rows compression n line.now 1 planes) }
