@@ -5,7 +5,7 @@ ghost use Rattle.std.specs.Prelude.{◌≡◌, ◌≤◌, eqb, length};
 ghost use Rattle.iff_name.specs.Name.{both};
 ghost use Rattle.ilbm_spec.specs.Rows.{line_answer, frame_answer};
 ghost use Rattle.ilbm_spec.specs.Shapes.{body_shape_line, body_shape_frame, shape_line_in_body, shape_frame_in_body, colours_after, shape_after};
-ghost use Rattle.ilbm_body_shapes.specs.Refusals.{shape_refusal};
+ghost use Rattle.ilbm_body_shapes.specs.Refusals.{Refuses};
 
 use iff_refusal::{Reason, Refusal};
 use ilbm_body_rows::{judge_fields, left_over};
@@ -21,7 +21,7 @@ fn both_right(colours: usize, shape: usize, pixels: usize) -> bool
 
 // 28 for wrong lengths, 44 for masking 3, if any.
 fn shape_refusal(right: bool, masking: u8) -> Result<(), Reason>
-    ensures { result ≡ shape_refusal right masking }
+    ensures { Refuses result right masking }
 {
     if !right {
         return Err(Reason::WrongLength);

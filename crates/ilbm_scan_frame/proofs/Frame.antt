@@ -92,6 +92,19 @@ module _ (pixels : Pixels) (compression n rows : ℕ) (body : List ℕ) where
     pub frame_stands : (o : Refusal) → r ≡ Err o → (old : List ℕ) → old ≡ bytes_after (lines_with pixels compression n rows body h 0) old
     frame_stands o d old = answered_refusal (lines_with pixels compression n rows body h 0) o old (sym frame_answered ∙ d)
 
+    module _ (m : ℕ) (c : rows ≡ m) (old : List ℕ) where
+      pub frame_read_lem :
+          (new : List ℕ) (q p : ℕ) → r ≡ Ok q → lines_with pixels compression n rows body h 0 ≡ found (new, p) →
+          (Ok q ≡ line_answer (lines_with pixels compression n m body h 0)) ×
+          (new ≡ bytes_after (lines_with pixels compression n m body h 0) old)
+      frame_read_lem new q p d i = rw (← c) (frame_told (Ok q) d, sym (ap (λ v. bytes_after v old) i))
+
+      pub frame_refusal :
+          (o : Refusal) → r ≡ Err o →
+          (Err o ≡ line_answer (lines_with pixels compression n m body h 0)) ×
+          (old ≡ bytes_after (lines_with pixels compression n m body h 0) old)
+      frame_refusal o d = rw (← c) (frame_told (Err o) d, frame_stands o d old)
+
   -- where lines are left, the first of them is read, and then the others
   lines_once :
       (h y q : ℕ) → y < h →

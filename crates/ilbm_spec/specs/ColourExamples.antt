@@ -11,7 +11,7 @@ use Rattle.ilbm_spec.specs.Rows.{Read, rows_from, colour_by, colours_from, lines
 use Rattle.ilbm_spec.specs.Colours.{black, entry_at, holds, is_half_bright, number_colour, modified, pixel_colour, carried}
 use Rattle.ilbm_spec.specs.Colours.{colour_line_in_body, colour_frame_in_body, colour_line_read}
 use Rattle.ilbm_spec.specs.Triples.{triples_from, triples_by}
-use Rattle.iff_refusal.specs.declared.Reason.TheVariants.{NoBody, BodyEnds, WrongLength, BeyondBody, HoldPlanes}
+use Rattle.iff_refusal.specs.Numbers.{reason_of}
 
 -- A palette of two entries and a cut one. Hold-and-modify by 6 planes and by 8, from black on; half-bright, and not with bit 11.
 abbrev two_and_cut : List ℕ
@@ -56,10 +56,10 @@ calls =
 colours_in_order :
     calls ≡
     found (170 ∷ 0 ∷ 0 ∷ 0 ∷ 0 ∷ 255 ∷ [], 0) ∷
-    refused HoldPlanes 0 ∷ refused BeyondBody 0 ∷ refused WrongLength 0 ∷ refused BodyEnds 24 ∷ refused NoBody 0 ∷ refused HoldPlanes 0 ∷ []
+    refused (reason_of 46) 0 ∷ refused (reason_of 29) 0 ∷ refused (reason_of 28) 0 ∷ refused (reason_of 26) 24 ∷ refused (reason_of 25) 0 ∷ refused (reason_of 46) 0 ∷ []
 unfolding
     fields_refusal header_in rows_from colours_from colour_by lines_with plain_row carried pixel_colour modified number_colour entry_at holds
-    is_half_bright word
+    is_half_bright word reason_of
 colours_in_order = refl
 
 -- The triples of a half-bright picture: its two entries, black ones, and from 32 on their halves. With bit 11, or with 5 planes, the

@@ -14,10 +14,7 @@ use Rattle.ilbm_spec.specs.Pictures.{header_in, wrong_size, fields_refusal, head
 use Rattle.ilbm_spec.specs.Rows.{Read, rows_from, colour_by, colours_from, lines_with, line_in_body, frame_in_body}
 use Rattle.ilbm_spec.specs.Shapes.{opaque, shape_by, Shaped, shaped, shape_line_in_body, shape_frame_in_body}
 use Rattle.ilbm_spec.specs.Table.{picture_row, picture_rows, rows_for, row_numbers, table_numbers, table_after}
-use Rattle.iff_refusal.specs.declared.Reason.TheVariants.{TableTooShort, EmptyPicture, BodyEnds, WrongLength, BeyondBody, NoShape}
-use Rattle.iff_refusal.specs.declared.Reason.TheVariants.{TooManyPlanes, UnknownMasking, UnknownCompression}
-use Rattle.iff_refusal.specs.declared.Reason.{Reason}
-use Rattle.std.specs.Prelude.{Result, Ok, Err}
+use Rattle.iff_refusal.specs.Numbers.{number_unless, reason_of}
 
 -- data by which a chunk is known
 abbrev mark : ℕ → List ℕ
@@ -72,15 +69,15 @@ with_fields planes masking compression =
     header_in
     (0 ∷ 0 ∷ 0 ∷ 2 ∷ 0 ∷ 0 ∷ 0 ∷ 0 ∷ planes ∷ masking ∷ compression ∷ 0 ∷ 0 ∷ 0 ∷ 0 ∷ 0 ∷ 0 ∷ 0 ∷ 0 ∷ 0 ∷ [])
 
-abbrev refusals : List (Result (Unit {0}) Reason)
+abbrev refusals : List ℕ
 refusals =
-    header_refusal (with_fields 9 4 2) true ∷
-    header_refusal (with_fields 8 4 2) true ∷
-    header_refusal (with_fields 8 3 2) true ∷
-    header_refusal (with_fields 8 3 1) true ∷
-    header_refusal (with_fields 8 3 1) false ∷ []
+    number_unless (header_refusal (with_fields 9 4 2) true) ∷
+    number_unless (header_refusal (with_fields 8 4 2) true) ∷
+    number_unless (header_refusal (with_fields 8 3 2) true) ∷
+    number_unless (header_refusal (with_fields 8 3 1) true) ∷
+    number_unless (header_refusal (with_fields 8 3 1) false) ∷ []
 
-header_in_order : refusals ≡ Err TooManyPlanes ∷ Err UnknownMasking ∷ Err UnknownCompression ∷ Err EmptyPicture ∷ Ok tt ∷ []
+header_in_order : refusals ≡ 41 ∷ 42 ∷ 43 ∷ 24 ∷ 0 ∷ []
 unfolding header_in fields_refusal header_refusal
 header_in_order = refl
 
@@ -116,8 +113,8 @@ unfolding
 two_rows = refl
 
 -- "13 if the table has fewer places than pictures"
-room_for_one : rows_for 59 (found sheet) ≡ refused TableTooShort 0
-unfolding contents_from
+room_for_one : rows_for 59 (found sheet) ≡ refused (reason_of 13) 0
+unfolding contents_from reason_of
 room_for_one = refl
 
 -- Rows of a BODY by itself: a line of two pixels and the frame that is this line; 24 for planes or w that are 0, and for h only in a frame.
@@ -130,8 +127,8 @@ alone =
     frame_in_body (128 ∷ 0 ∷ []) 2 0 1 0 0 0 ∷ []
 
 body_alone :
-    alone ≡ found (1 ∷ 0 ∷ [], 2) ∷ found (1 ∷ 0 ∷ [], 0) ∷ refused EmptyPicture 0 ∷ refused EmptyPicture 0 ∷ refused EmptyPicture 0 ∷ []
-unfolding fields_refusal rows_from colours_from colour_by lines_with plain_row
+    alone ≡ found (1 ∷ 0 ∷ [], 2) ∷ found (1 ∷ 0 ∷ [], 0) ∷ refused (reason_of 24) 0 ∷ refused (reason_of 24) 0 ∷ refused (reason_of 24) 0 ∷ []
+unfolding fields_refusal rows_from colours_from colour_by lines_with plain_row reason_of
 body_alone = refl
 
 -- Ask 4: 01's three pixels with a mask row that has the first two; all three, those of the mask, and all but colour 2; a frame of one line;
@@ -158,6 +155,6 @@ which_pixels :
     found (shaped (1 ∷ 2 ∷ 3 ∷ []) (1 ∷ 1 ∷ 0 ∷ []), 6) ∷
     found (shaped (1 ∷ 2 ∷ 3 ∷ []) (1 ∷ 0 ∷ 1 ∷ []), 4) ∷
     found (shaped (1 ∷ 2 ∷ 3 ∷ []) (1 ∷ 1 ∷ 0 ∷ []), 0) ∷
-    refused BeyondBody 0 ∷ refused WrongLength 0 ∷ refused WrongLength 0 ∷ refused NoShape 0 ∷ refused BodyEnds 6 ∷ []
-unfolding fields_refusal rows_from colours_from colour_by lines_with plain_row opaque shape_by
+    refused (reason_of 29) 0 ∷ refused (reason_of 28) 0 ∷ refused (reason_of 28) 0 ∷ refused (reason_of 44) 0 ∷ refused (reason_of 26) 6 ∷ []
+unfolding fields_refusal rows_from colours_from colour_by lines_with plain_row opaque shape_by reason_of
 which_pixels = refl
